@@ -96,7 +96,12 @@ CALLS = [
     refuses_staying("cookie_file_without_stay", "--cookie-file: goes with --stay alone", "--listen 127.0.0.1:0 --cookie-file c"),
     refuses_staying("idle_without_stay", "--idle: goes with --stay alone", "--listen 127.0.0.1:0 --idle 5"),
     refuses_staying("socket_without_stay", "--listen unix:PATH: goes with --stay alone", "--listen unix:s"),
-    refuses_staying("stay_over_tcp_without_a_cookie_file", "--cookie-file: wanted with --stay over TCP", "--listen 127.0.0.1:0 --stay"),
+    refuses_staying("stay_over_tcp_without_a_cookie_file", "--cookie-file: wanted with --stay over TCP; a socket is --listen unix:PATH", "--listen 127.0.0.1:0 --stay"),
+    refuses_staying("cookie_file_before_other_options", "--cookie-file: goes with --stay alone", "--listen unix:s --idle 9 --cookie-file c"),
+    refuses_staying("idle_before_a_socket", "--idle: goes with --stay alone", "--listen unix:s --idle 9"),
+    refuses_staying("cookie_file_that_is_wanted_beside_idle", "--cookie-file: wanted with --stay over TCP; a socket is --listen unix:PATH", "--listen 127.0.0.1:0 --stay --idle 9"),
+    Call("list_before_options_that_do_not_fit", "serve --listen unix:s --nodes a,,b --idle 9".split(), 2, errors=b"error empty\n"),
+    Call("same_node_before_options_that_do_not_fit", "serve --listen x --nodes a --lone a --stay".split(), 2, errors=b"error same_node\n"),
     refuses_options("idle_of_no_time", "--listen unix:s --nodes a --stay --idle 0"),
     refuses_options("idle_of_more_than_a_year", "--listen unix:s --nodes a --stay --idle 31536001"),
     refuses_options("idle_that_is_no_number", "--listen unix:s --nodes a --stay --idle x"),
@@ -139,8 +144,32 @@ def check(program, call):
         raise Failure("it read its input")
 
 
+# Words that are refused, and a part of what is told of them.
+REFUSED = [
+    ("", "--listen <ADDR>"),
+    ("--listen x", "--nodes <LIST>"),
+    ("--listen x --nodes a --consoles 65", "1..=64"),
+    ("--listen x --nodes a --consoles 0", "1..=64"),
+    ("--listen unix:x --nodes a --stay --idle 0", "1..=31536000"),
+    ("--listen unix:x --nodes a --stay --idle 31536001", "1..=31536000"),
+]
+
+
+def what_is_wanted_is_told(program):
+    for words, part in REFUSED:
+        told = program.run(["serve", *words.split()]).stderr
+        if part.encode() not in told:
+            raise Failure(f"`serve {words}`: {part} isn't told of: {shown(told)}")
+
+
 def help_tells_of_each_option(program):
+    told = program.run(["--help"]).stdout
+    if b"Runs nodes and serves consoles over the network" not in told:
+        raise Failure("serve isn't told of")
     told = program.run(["serve", "--help"]).stdout
+    for address in [b"127.0.0.1:4370", b"unix:/run/yaltzumin/socket"]:
+        if address not in told:
+            raise Failure(f"{address.decode()} isn't told of")
     options = [b"--listen <ADDR>", b"--nodes <LIST>", b"--lone <LIST>", b"--consoles <N>"]
     for option in [*options, b"--stay", b"--cookie-file <FILE>", b"--idle <SECONDS>"]:
         if option not in told:
@@ -210,6 +239,9 @@ def sockets_that_are_refused(program):
             taken.bind(f"{folder}/taken")
             taken.listen()
             refused(f"{folder}/taken", "in use\n")
+        os.makedirs(f"{folder}/socket.new/kept")
+        refused(f"{folder}/socket", "PATH.new is in the way\n")
+        expect_same("the folder", b"kept", " ".join(os.listdir(f"{folder}/socket.new")).encode())
 
 
 def socket_of_its_owner(program):
@@ -258,6 +290,21 @@ def sixty_four_consoles(program):
             listen_to([it], lambda: it.has_ended, program.seconds)
             expect_same("a console's answers", b"ok\nundefined\nok\n", it.heard)
         served.expect_closed()
+
+
+def sixty_four_consoles_that_stay(program):
+    """As many are served at once by a server that stays, where it isn't told how many; one more is told so."""
+    with Served(program, ["--stay", "--nodes", "a"]) as served:
+        consoles = [Console(served) for _ in range(64)]
+        for it in consoles:
+            it.say(b"attach a\n")
+            listen_to([it], lambda: it.next_line() is not None, program.seconds)
+            expect_same("a console's answer", b"ok\n", it.heard)
+        late = Console(served)
+        listen_to([late], lambda: late.has_ended, program.seconds)
+        expect_same("the answer to one too many", b"error too_many_consoles\n", late.heard)
+        consoles[0].say(b"shutdown\n")
+        served.expect_closed(most=0)
 
 
 def last_line_that_nobody_reads(program):
@@ -336,6 +383,7 @@ def tests(program, root):
         yield Test(f"arguments/{call.name}", partial(check, program, call))
     for it in [
         help_tells_of_each_option,
+        what_is_wanted_is_told,
         address_in_use,
         port_zero_is_told_as_the_one_that_listens,
         port_zero_of_a_server_that_stays,
@@ -343,6 +391,7 @@ def tests(program, root):
         sockets_that_are_refused,
         socket_of_its_owner,
         sixty_four_consoles,
+        sixty_four_consoles_that_stay,
         last_line_that_nobody_reads,
         input_that_cannot_be_read,
         output_that_nobody_reads,

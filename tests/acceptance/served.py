@@ -109,11 +109,12 @@ class Served:
         except subprocess.TimeoutExpired:
             raise Failure("the program had not ended in time") from None
 
-    def expect_closed(self, least=0, most=None):
-        """Waits for the end: the cluster is closed, with so many events. Only one that stays tells of its consoles on standard error."""
+    def expect_closed(self, least=0, most=None, told=None):
+        """Waits for the end: the cluster is closed, with so many events. Only one that stays tells of its consoles on standard error: this,
+        where it is looked at."""
         output, errors = self.end()
-        if not self.stays:
-            expect_same("standard error", b"", errors)
+        if not self.stays or told is not None:
+            expect_same("standard error", told or b"", errors)
         word, _, number = output.partition(b" ")
         is_closed = word == b"closed" and number.endswith(b"\n") and number[:-1].isdigit()
         if not is_closed or not least <= int(number) <= (int(number) if most is None else most):

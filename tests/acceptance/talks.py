@@ -156,6 +156,43 @@ def one_too_many(program):
         served.expect_closed(most=0)
 
 
+def a_million_lines_and_more(program):
+    """A server that stays answers as many lines as come."""
+    with Served(program, ["--stay", "--nodes", "a", "--consoles", "1"]) as served:
+        console = Console(served)
+        lines = b"attach a\n" + b"\n" * (MOST_LINES + 1) + b"shutdown\n"
+        sender = Thread(target=console.say, args=[lines], daemon=True)
+        sender.start()
+        listen_to([console], lambda: console.has_ended, program.seconds)
+        expect_same("the answers", b"ok\n" + b"error bad_line\n" * (MOST_LINES + 1) + b"ok\n", console.heard)
+        sender.join()
+        served.expect_closed(most=0)
+
+
+def one_too_many_at_a_server_that_stays(program):
+    """Who comes beside the last console is told so, and the server tells of each."""
+    with Served(program, ["--stay", "--nodes", "a", "--consoles", "1", "--idle", "31536000"]) as served:
+        console = Console(served)
+        expect_same("an answer", b"ok", hears(console, b"attach a", program.seconds))
+        late = Console(served)
+        listen_to([late], lambda: late.has_ended, program.seconds)
+        expect_same("the answer to one too many", b"error too_many_consoles\n", late.heard)
+        expect_same("an answer", b"ok", hears(console, b"shutdown", program.seconds))
+        served.expect_closed(most=0, told=b"console 1 taken\ntoo_many_consoles\nconsole 1 a ended shutdown\n")
+
+
+def consoles_are_told_of(program):
+    """A server that stays tells of each console that came, and how it ended."""
+    with Served(program, ["--stay", "--nodes", "a", "--consoles", "1"]) as served:
+        for lines, answers in [(b"attach a\nspawn\nquit\n", b"ok\na.1\nok\n"), (b"attach a\nshutdown\n", b"ok\nok\n")]:
+            console = Console(served)
+            console.say(lines)
+            listen_to([console], lambda: console.has_ended, program.seconds)
+            expect_same("the answers", answers, console.heard)
+        told = b"console 1 taken\nconsole 1 a ended quit\nconsole 2 taken\nconsole 2 a ended shutdown\n"
+        served.expect_closed(least=1, most=1, told=told)
+
+
 def seventy_in_turn(program):
     """More consoles than there are seats, one after the other: each gives its seat back."""
     with Served(program, ["--stay", "--nodes", "a", "--consoles", "2"]) as served:
@@ -200,6 +237,9 @@ def client_goes_while_its_call_waits(program, *options):
         while found == b"error busy" and time.monotonic() < until:
             found = hears(first, ask, program.seconds)
         expect_same("the answer when its client has gone", b"error not_live", found)
+        # What was given up has no part in the lock.
+        for line, answer in [(b"del_lock a.1 leader one all", b"true"), (b"spawn", b"a.3"), (b"set_lock a.3 leader three all 0", b"true")]:
+            expect_same("an answer", answer, hears(first, line, program.seconds))
         expect_same("an answer", b"ok", hears(first, b"shutdown", program.seconds))
         served.expect_closed()
 
@@ -251,7 +291,10 @@ def tests(program, root):
     for name in sorted(os.listdir(folder)):
         yield Test(f"consoles/{name}", partial(play, program, f"{folder}/{name}"))
     yield Test("consoles/a_million_lines", partial(a_million_lines, program))
+    yield Test("consoles/a_million_lines_and_more", partial(a_million_lines_and_more, program))
     yield Test("consoles/one_too_many", partial(one_too_many, program))
+    yield Test("consoles/one_too_many_at_a_server_that_stays", partial(one_too_many_at_a_server_that_stays, program))
+    yield Test("consoles/consoles_are_told_of", partial(consoles_are_told_of, program))
     yield Test("consoles/seventy_in_turn", partial(seventy_in_turn, program))
     yield Test("consoles/statuses", partial(statuses, program))
     yield Test("consoles/client_goes_at_a_socket", partial(client_goes_while_its_call_waits, program))

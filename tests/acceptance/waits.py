@@ -8,7 +8,7 @@ import time
 from functools import partial
 
 from .outcomes import Failure, Test, expect_same
-from .served import Console, Served
+from .served import Console, Served, listen_to
 from .talks import hears
 
 # For longer than a first line may take.
@@ -51,6 +51,37 @@ def idle_server_stays(program, *options):
         shut_down(served, console, program.seconds)
 
 
+def idle_console_is_ended(program):
+    """A console that is silent for longer than it may be ends, and another comes."""
+    with Served(program, ["--stay", "--nodes", "a", "--consoles", "1", "--idle=1", *OVER_TCP]) as served:
+        console = Console(served)
+        expect_same("an answer", b"ok", hears(console, attach(OVER_TCP), program.seconds))
+        if not listen_to([console], lambda: console.has_ended, program.seconds) or console.heard:
+            raise Failure("the silent console has not ended in time, or was told something")
+        next = Console(served)
+        expect_same("an answer", b"ok", hears(next, attach(OVER_TCP), program.seconds))
+        expect_same("an answer", b"ok", hears(next, b"shutdown", program.seconds))
+        told = b"console 1 taken\nconsole 1 a ended read\nconsole 2 taken\nconsole 2 a ended shutdown\n"
+        served.expect_closed(told=told)
+
+
+def wrong_cookie_is_told_late(program):
+    """Who doesn't show the cookie is told so after a second; who does, and names a node that there isn't, at once."""
+    with Served(program, ["--stay", "--nodes", "a", "--consoles", "1", *OVER_TCP]) as served:
+        for line, answer, least, most in [
+            (b"attach a", b"error not_allowed", 1, program.seconds),
+            (attach(OVER_TCP, "b"), b"error no_such_node", 0, 1),
+        ]:
+            console, begun = Console(served), time.monotonic()
+            expect_same("an answer", answer, hears(console, line, program.seconds))
+            taken = time.monotonic() - begun
+            if not least <= taken < most:
+                raise Failure(f"the answer to {line!r} came behind {taken} seconds")
+            listen_to([console], lambda: console.has_ended, program.seconds)
+        console = until_there_is_a_place(served, attach(OVER_TCP), program.seconds)
+        shut_down(served, console, program.seconds)
+
+
 def until_there_is_a_place(served, line, seconds):
     """A console that is attached, once the server has a place for it."""
     until = time.monotonic() + seconds
@@ -87,4 +118,5 @@ def tests(program, root):
     for name, test in [("silent_console_goes_on", silent_console_goes_on), ("idle_server_stays", idle_server_stays)]:
         yield Test(f"waits/{name}_at_a_socket", partial(test, program))
         yield Test(f"waits/{name}_over_tcp", partial(test, program, *OVER_TCP))
-    yield Test("waits/given_up_call_frees_its_place", partial(given_up_call_frees_its_place, program))
+    for test in [idle_console_is_ended, wrong_cookie_is_told_late, given_up_call_frees_its_place]:
+        yield Test(f"waits/{test.__name__}", partial(test, program))

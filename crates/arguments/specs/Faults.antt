@@ -23,7 +23,7 @@ abbrev pub option_text : OptionFault → List ℕ
 option_text CookieFile = codes "--cookie-file: goes with --stay alone"
 option_text Idle = codes "--idle: goes with --stay alone"
 option_text Socket = codes "--listen unix:PATH: goes with --stay alone"
-option_text NoCookieFile = codes "--cookie-file: wanted with --stay over TCP"
+option_text NoCookieFile = codes "--cookie-file: wanted with --stay over TCP; a socket is --listen unix:PATH"
 
 -- the word that is printed for a fault of the nodes; other texts are shown for the others
 abbrev pub word_of : ArgFault → Option (List ℕ)

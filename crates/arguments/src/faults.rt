@@ -84,7 +84,8 @@ impl OptionFault {
             OptionFault::CookieFile => "--cookie-file: goes with --stay alone",
             OptionFault::Idle => "--idle: goes with --stay alone",
             OptionFault::Socket => "--listen unix:PATH: goes with --stay alone",
-            OptionFault::NoCookieFile => "--cookie-file: wanted with --stay over TCP",
+            OptionFault::NoCookieFile =>
+                "--cookie-file: wanted with --stay over TCP; a socket is --listen unix:PATH",
         }
     }
 }

@@ -6,7 +6,7 @@ use Rattle.server.specs.Printing.{ended}
 use Rattle.server.specs.declared.entry.Entry.{Entry}
 use Rattle.server.specs.declared.entry.Entry.TheVariants.{Tcp, Unix}
 use Rattle.cluster_main.specs.declared.sockets.ListenFault.{ListenFault}
-use Rattle.cluster_main.specs.declared.sockets.ListenFault.TheVariants.{InUse, NotASocket, TooLong, System}
+use Rattle.cluster_main.specs.declared.sockets.ListenFault.TheVariants.{InUse, NotASocket, TooLong, InTheWay, System}
 
 -- this is where consoles come in that are sent to an address: a socket where it names one, and else the network
 abbrev pub EntersAt : List ℕ → Entry → Type 0
@@ -61,4 +61,5 @@ abbrev pub listen_words : ListenFault → Option (List ℕ)
 listen_words InUse = Some (codes "in use")
 listen_words NotASocket = Some (codes "not a socket")
 listen_words TooLong = Some (codes "too long")
+listen_words InTheWay = Some (codes "PATH.new is in the way")
 listen_words (System e) = None

@@ -1,17 +1,13 @@
 //! Where the program listens, and the line that tells of it.
-ghost use Rattle.std.specs.Prelude.{ℕ, List, IfOk, MatchResult, string_bytes};
-ghost use Rattle.text_lines.specs.Writing.{Writes};
-ghost use Rattle.cluster_main.specs.Listening.{EntersAt, HasPort, IsListeningLine, IsPortOf, RefusesAddress, TellsAddress, listening_line};
+ghost use Rattle.std.specs.Prelude.{◌≡◌, IfOk, MatchResult, string_bytes};
+ghost use Rattle.cluster_main.specs.Listening.{EntersAt, HasPort, IsListeningLine, IsPortOf, RefusesAddress, TellsAddress, listening_line as line_for};
 
-use crate::lines::write_line;
 use crate::sockets::{ListenFault, bind_private};
 use arguments::ServeOptions;
 use server::Entry;
 use std::alloc::{AllocError, Global};
 use std::fs::Files;
-use std::io::Write;
 use std::net::{Net, TcpListener, TcpStream};
-use text_lines::{WriteFault, hand_on};
 
 /// Listens at the address: at a socket where it names one, and else at one of the network.
 pub(crate) fn listen<H>(rt: &H, alloc: Global, options: &ServeOptions) -> Result<Entry, ListenFault>
@@ -55,26 +51,23 @@ fn told_address(alloc: Global, written: &str, port: Option<u16>) -> Result<Strin
     }
 }
 
-/// Prints that the program listens at an address, and hands it on.
-fn write_address<W: Write>(writer: &mut W, address: &str) -> Result<(), WriteFault>
-    ensures { Writes (W.contents writer.old) (W.contents writer.new) result (listening_line address.now) }
+/// The line that tells an address.
+fn line_of(alloc: Global, address: &str) -> Result<String, AllocError>
+    ensures { IfOk result (λ line. string_bytes line ≡ line_for address.now) }
 {
-    write_line(writer, "listening ", address)?;
-    hand_on(writer)
+    format!(in alloc; "listening {address}\n")
 }
 
-/// Prints that the program listens at the address that was written, and hands it on. Where that leaves the port to the system, as
+/// The line that tells where the program listens: at the address that was written. Where that leaves the port to the system, as
 /// `HOST:0`, it is told with the port that the listener has, unless that isn't known.
-pub(crate) fn announce<W: Write>(
+pub(crate) fn listening_line(
     alloc: Global,
-    writer: &mut W,
     entry: &Entry,
     written: &str,
-) -> Result<(), WriteFault>
+) -> Result<String, AllocError>
     requires { EntersAt written.now entry.now }
-    ensures { (line : List ℕ) × IsListeningLine written.now line
-        × Writes (W.contents writer.old) (W.contents writer.new) result line }
+    ensures { IfOk result (λ line. IsListeningLine written.now (string_bytes line)) }
 {
     let address = told_address(alloc, written, port_of(entry))?;
-    write_address(writer, address.as_str())
+    line_of(alloc, address.as_str())
 }

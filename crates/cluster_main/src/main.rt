@@ -3,6 +3,7 @@
 
 mod answering;
 mod cookies;
+mod journal;
 mod lines;
 mod listening;
 mod playing;

@@ -1,18 +1,20 @@
 //! What the program does where it is to serve consoles.
-ghost use Rattle.std.specs.Prelude.{◌≡◌, codes, false, is_some, string_bytes};
+ghost use Rattle.std.specs.Prelude.{◌≡◌, codes, false, is_some, string_bytes, true};
 ghost use Rattle.std.specs.Io.KnownBytes.{Keeps};
 ghost use Rattle.cluster_main.specs.Cookies.{cookie_words};
-ghost use Rattle.cluster_main.specs.Listening.{EntersAt, RefusesAddress};
+ghost use Rattle.cluster_main.specs.Listening.{EntersAt, IsListeningLine, RefusesAddress};
 ghost use Rattle.cluster_main.specs.Refusing.{RefusesValue};
-ghost use Rattle.cluster_main.specs.Serving.{IsReady, Runs, Serves, StaysSo, TellsWhy, served_status};
+ghost use Rattle.server.specs.Staying.{StaysCluster};
+ghost use Rattle.cluster_main.specs.Serving.{IsReady, Listened, Serves, StaysSo, TellsWhy, served_status};
 ghost use Rattle.cluster_main.specs.declared.serving.Served.TheVariants.{NoCookie, NotListening};
 
 use crate::cookies::{CookieFault, read_cookie};
-use crate::listening::{announce, listen};
+use crate::journal::Journal;
+use crate::listening::{listen, listening_line};
 use crate::refusing::refuse_value;
 use crate::sockets::{ListenFault, Standing};
 use arguments::ServeOptions;
-use server::{Cookie, Entry, ServeFault, StayOptions, run_serve, run_stay};
+use server::{Cookie, Entry, ServeFault, StayFault, StayOptions, run_serve, run_stay};
 use std::alloc::Global;
 use std::fs::Files;
 use std::io::Write;
@@ -20,6 +22,7 @@ use std::net::{Net, TcpListener, TcpStream};
 use std::sync::Wait;
 use std::thread::Threads;
 use std::time::Clock;
+use text_lines::tell;
 
 /// What it came to that consoles were to be served.
 #[derive(Debug, Drop)]
@@ -32,6 +35,8 @@ pub enum Served {
     NotAnnounced,
     /// It listened, that was printed, and a cluster was served to its end, or to a fault.
     Ran(Result<bool, ServeFault>),
+    /// It listened, and a cluster that stays was served to its end, or to a fault.
+    Stayed(Result<bool, StayFault>),
 }
 
 impl Served {
@@ -40,7 +45,7 @@ impl Served {
         ensures { result ≡ served_status self.now }
     {
         match self {
-            Served::Ran(Ok(true)) => 0,
+            Served::Ran(Ok(true)) | Served::Stayed(Ok(true)) => 0,
             _ => 1,
         }
     }
@@ -57,17 +62,89 @@ fn stay_options(options: &ServeOptions, cookie: Option<Cookie>) -> StayOptions
     }
 }
 
-/// Runs a cluster and serves the consoles that come: until one of them shuts it down where it is to stay, and else until the last
-/// of so many has ended.
-fn run<H, W, E>(
+/// Runs a cluster that stays, and serves the consoles that come until one of them shuts it down. That it listens is printed once all is
+/// there to serve with; where that can't be had, it is told on standard error.
+fn stay<H, W, E>(
     rt: &H,
     alloc: Global,
     entry: Entry,
     options: &ServeOptions,
     cookie: Option<Cookie>,
+    listening: &str,
     writer: &mut W,
     errors: &mut E,
-) -> Result<bool, ServeFault>
+) -> Result<bool, StayFault>
+where
+    H: Threads + Wait + Clock + Files + Drop + Copy + Send + Sync + 'static,
+    W: Write,
+    E: Write,
+    requires { IsReady options.now }
+    ensures { StaysCluster options.now.cluster options.now.lone listening.now (W.contents writer.old) (W.contents writer.new) result }
+{
+    let cluster = options.cluster.as_slice();
+    let lone = options.lone.as_slice();
+    let told = stay_options(options, cookie);
+    let mut journal = Journal::new(errors);
+    let stayed = run_stay(
+        rt,
+        alloc,
+        entry,
+        cluster,
+        lone,
+        told,
+        listening,
+        writer,
+        &mut journal,
+    );
+    if matches!(stayed, Err(StayFault::Start)) {
+        let _ = journal.write_all(
+            b"error: no memory or no threads for so many nodes and consoles\n",
+        );
+    }
+    stayed
+}
+
+/// Prints that it listens, and serves consoles until the last of so many has ended.
+fn serve_so_many<H, W>(
+    rt: &H,
+    alloc: Global,
+    listener: TcpListener,
+    options: &ServeOptions,
+    listening: &str,
+    writer: &mut W,
+) -> Served
+where
+    H: Threads + Wait + Clock + Drop + Copy + Send + Sync + 'static,
+    W: Write,
+    requires ready { IsReady options.now }
+    requires line { IsListeningLine (string_bytes options.now.listen) listening.now }
+    requires leaves { options.now.stay ≡ false }
+    ensures serves { Serves options.now (W.contents writer.old) (W.contents writer.new) result }
+    ensures listened { Listened result }
+{
+    match tell(writer, listening.as_bytes()) {
+        Ok(()) => {
+            let cluster = options.cluster.as_slice();
+            let lone = options.lone.as_slice();
+            let consoles = u32::from(options.consoles);
+            Served::Ran(run_serve(rt, alloc, listener, cluster, lone, consoles, writer))
+        }
+        Err(_) => Served::NotAnnounced,
+    }
+}
+
+/// Serves the consoles that come: until one of them shuts the server down where it is to stay, and else until the last of so many has
+/// ended.
+fn serve_telling<H, W, E>(
+    rt: &H,
+    alloc: Global,
+    entry: Entry,
+    options: &ServeOptions,
+    cookie: Option<Cookie>,
+    listening: &str,
+    writer: &mut W,
+    errors: &mut E,
+) -> Served
 where
     H: Threads + Wait + Clock + Files + Drop + Copy + Send + Sync + 'static,
     W: Write,
@@ -75,25 +152,21 @@ where
     requires ready { IsReady options.now }
     requires entry { EntersAt (string_bytes options.now.listen) entry }
     requires guarded { is_some cookie ≡ is_some options.now.cookie_file }
-    ensures runs { Runs options.now (W.contents writer.old) (W.contents writer.new) result }
-    ensures silent { options.now.stay ≡ false → Keeps (E.contents errors.old) (E.contents errors.new) }
+    requires line { IsListeningLine (string_bytes options.now.listen) listening.now }
+    ensures serves { Serves options.now (W.contents writer.old) (W.contents writer.new) result }
+    ensures why { TellsWhy options.now (E.contents errors.old) (E.contents errors.new) result }
 {
-    let cluster = options.cluster.as_slice();
-    let lone = options.lone.as_slice();
     if options.stay {
-        let told = stay_options(options, cookie);
-        return run_stay(rt, alloc, entry, cluster, lone, told, writer, errors);
+        let stayed = stay(rt, alloc, entry, options, cookie, listening, writer, errors);
+        return Served::Stayed(stayed);
     }
     match entry {
-        Entry::Tcp(listener) => {
-            let consoles = u32::from(options.consoles);
-            run_serve(rt, alloc, listener, cluster, lone, consoles, writer)
-        }
+        Entry::Tcp(listener) => serve_so_many(rt, alloc, listener, options, listening, writer),
         Entry::Unix(_) => unreachable!(),
     }
 }
 
-/// Prints where it listens, and serves the consoles that come.
+/// Serves the consoles that come, and prints where it listens.
 fn serve_at<H, W, E>(
     rt: &H,
     alloc: Global,
@@ -113,10 +186,19 @@ where
     ensures serves { Serves options.now (W.contents writer.old) (W.contents writer.new) result }
     ensures why { TellsWhy options.now (E.contents errors.old) (E.contents errors.new) result }
 {
-    if announce(alloc, writer, &entry, options.listen.as_str()).is_err() {
-        return Served::NotAnnounced;
+    match listening_line(alloc, &entry, options.listen.as_str()) {
+        Ok(line) => serve_telling(
+            rt,
+            alloc,
+            entry,
+            options,
+            cookie,
+            line.as_str(),
+            writer,
+            errors,
+        ),
+        Err(_) => Served::NotAnnounced,
     }
-    Served::Ran(run(rt, alloc, entry, options, cookie, writer, errors))
 }
 
 /// Tells why nothing listens at the address.

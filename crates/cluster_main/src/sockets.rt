@@ -23,6 +23,8 @@ pub enum ListenFault {
     NotASocket,
     /// The path of the socket is too long.
     TooLong,
+    /// What is wanted to make the socket in stands there already.
+    InTheWay,
     /// Nothing can listen there, for this reason.
     System(io::Error),
 }
@@ -52,6 +54,7 @@ impl ListenFault {
             ListenFault::InUse => String::from_str(alloc, "in use"),
             ListenFault::NotASocket => String::from_str(alloc, "not a socket"),
             ListenFault::TooLong => String::from_str(alloc, "too long"),
+            ListenFault::InTheWay => String::from_str(alloc, "PATH.new is in the way"),
             ListenFault::System(error) => format!(in alloc; "{error}"),
         }
     }
@@ -96,6 +99,17 @@ fn bind_and_move<R: Files + Net>(rt: &R, from: &str, path: &str) -> io::Result<U
     Ok(listener)
 }
 
+/// Makes the folder that a socket is made in, which only its owner may enter.
+fn make_folder<R: Files>(rt: &R, folder: &str) -> Result<(), ListenFault>
+    ensures { IfErr result (λ fault. is_too_long fault ≡ false) }
+{
+    match DirBuilder::new().mode(0o700).create(rt, folder) {
+        Ok(()) => Ok(()),
+        Err(error) if error.kind() == ErrorKind::AlreadyExists => Err(ListenFault::InTheWay),
+        Err(error) => Err(ListenFault::System(error)),
+    }
+}
+
 /// Listens at a socket that is made in a new folder and then moved. The folder and what is left in it go in any case.
 fn bind_in<R: Files + Net>(
     rt: &R,
@@ -107,7 +121,7 @@ fn bind_in<R: Files + Net>(
 {
     see_unused(rt, socket)?;
     clear(rt, folder, socket);
-    DirBuilder::new().mode(0o700).create(rt, folder)?;
+    make_folder(rt, folder)?;
     let bound = bind_and_move(rt, socket, path);
     clear(rt, folder, socket);
     Ok(bound?)

@@ -19,7 +19,7 @@ use Rattle.cluster_world.specs.Held.{Held}
 use Rattle.command_lines.specs.Commands.{LineAsks, asked_by, unread}
 use Rattle.text_lines.specs.Words.{words}
 use Rattle.command_lines.specs.declared.grammar.Task.{Task}
-use Rattle.protocol_model.specs.NamedEvents.{NamedLine}
+use Rattle.command_lines.specs.Grammar.{ScriptLine}
 use Rattle.text_lines.specs.declared.faults.StreamFault.{StreamFault}
 use Rattle.text_lines.specs.Lines.{spoken, count_of_all, LosesLines}
 use Rattle.text_lines.proofs.Known.{spoken-append, count_of_all-append, LosesLines-trans, LosesInto-behind, GoesPastFor-behind}
@@ -168,7 +168,7 @@ read_or_memory line (Ok t) h = inl (h ok_err)
 read_or_memory line (Err f) h = go f h
   where
     go : (f : LineFault) → ((◌≡◌ {A = Result Task LineFault} (Err f) (Err Memory) → ⊥) → LineAsks line (Err f))
-        → LineAsks line (Err f) ⊎ (◌≡◌ {A = Result NamedLine LineFault} (Err f) (Err Memory))
+        → LineAsks line (Err f) ⊎ (◌≡◌ {A = Result ScriptLine LineFault} (Err f) (Err Memory))
     go BadLine h = inl (h (λ z. cc))
     go LineTooLong h = inl (h (λ z. cc))
     go NotAscii h = inl (h (λ z. cc))

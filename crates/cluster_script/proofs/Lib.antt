@@ -7,6 +7,7 @@ mod Nodes
 mod Meaning
 mod Shown
 mod Settling
+mod Finishing
 mod Scripts
 mod Headers
 mod Runs

@@ -19,10 +19,11 @@ use Rattle.command_lines.specs.declared.Answer.{Answer}
 use Rattle.command_lines.specs.declared.WorldEvent.{WorldEvent}
 use Rattle.command_lines.specs.declared.WorldEvent.TheVariants as event
 use Rattle.command_lines.specs.declared.faults.LineFault.{LineFault}
+use Rattle.command_lines.specs.Grammar.{ScriptLine, Scripted, Finish}
 use Rattle.command_lines.specs.Printing.{Shown, Shows, is_fine, output_line, shown_text}
 use Rattle.text_lines.specs.declared.faults.WriteFault.{WriteFault}
 use Rattle.text_lines.specs.Writing.{AppendsPart, Writes}
-use Rattle.cluster_script.specs.Script.{Outcome, Plays, Fails, Breaks, shown}
+use Rattle.cluster_script.specs.Script.{Outcome, Plays, Fails, Breaks, Finishes, shown}
 use Rattle.cluster_script.specs.Played.{ComesOf, PlaysOrStops, PlaysAsked, WritesOkay, node_at, okay_text}
 use Rattle.cluster_script.proofs.Nodes.{stranger}
 
@@ -65,10 +66,10 @@ module _ (old new : Held) (x : ℕ) (e : AnyEvent) (a b : Option (List ℕ)) whe
         ∙ ap (λ (ss : List Shown). list_all is_fine ss) (sym (shown_there (names_of old) (named old) (text_in x) e));
   }
 
-  asked_there : (r : Result Bool WriteFault) → PlaysAsked (Ok by_node) old new a b r → PlaysAsked (Ok by_name) old new a b r
+  asked_there : (r : Result Bool WriteFault) → PlaysAsked (Ok (Scripted by_node)) old new a b r → PlaysAsked (Ok (Scripted by_name)) old new a b r
   asked_there r p = go p.0 p.1 p.2
     where
-      go : (y : Outcome) → ComesOf (Ok by_node) y → PlaysOrStops old new y a b r → PlaysAsked (Ok by_name) old new a b r
+      go : (y : Outcome) → ComesOf (Ok (Scripted by_node)) y → PlaysOrStops old new y a b r → PlaysAsked (Ok (Scripted by_name)) old new a b r
       go (Plays l) c q =
           let same : l ≡ by_node = cc in
           (Plays by_name, refl, plays_there r (subst (λ (m : NamedLine). PlaysOrStops old new (Plays m) a b r) same q))
@@ -77,17 +78,22 @@ module _ (old new : Held) (x : ℕ) (e : AnyEvent) (a b : Option (List ℕ)) whe
         | inr m ↦ (Fails f, inr m, q)
       ]
         where
-          ok_err : (f : LineFault) → ◌≡◌ {A = Result NamedLine LineFault} (Ok by_node) (Err f) → ⊥
+          ok_err : (f : LineFault) → ◌≡◌ {A = Result ScriptLine LineFault} (Ok (Scripted by_node)) (Err f) → ⊥
           ok_err f z = cc
       go (Breaks k) c q = absurd (play_settle c.0)
         where
-          play_settle : ◌≡◌ {A = Result NamedLine LineFault} (Ok by_node) (Ok Settle) → ⊥
+          play_settle : ◌≡◌ {A = Result ScriptLine LineFault} (Ok (Scripted by_node)) (Ok (Scripted Settle)) → ⊥
           play_settle z = cc
+      go (Finishes k) c q = absurd (play_finish c)
+        where
+          play_finish : ◌≡◌ {A = Result ScriptLine LineFault} (Ok (Scripted by_node)) (Ok Finish) → ⊥
+          play_finish z = cc
 
   pub PlaysAsked-named : (n : ℕ) → n ≡ node_at old x → (r : Result Bool WriteFault)
-      → PlaysAsked (Ok (Play (AtNode n e))) old new a b r → PlaysAsked (Ok (Play (At (text_in x) e))) old new a b r
+      → PlaysAsked (Ok (Scripted (Play (AtNode n e)))) old new a b r
+      → PlaysAsked (Ok (Scripted (Play (At (text_in x) e)))) old new a b r
   PlaysAsked-named n same r p =
-      asked_there r (subst (λ (m : ℕ). PlaysAsked (Ok (Play (AtNode m e))) old new a b r) same p)
+      asked_there r (subst (λ (m : ℕ). PlaysAsked (Ok (Scripted (Play (AtNode m e)))) old new a b r) same p)
 
 -- where there is no such name, there is no such node
 pub nobody : (h : Held) (x : ℕ) (e : AnyEvent) → is_name (names_of h) x ≡ false

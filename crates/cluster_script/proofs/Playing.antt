@@ -4,7 +4,7 @@ use Rattle.std.specs.Prelude.{is_none, if◌then◌else◌, IfOk}
 use Rattle.std.specs.List.{list_all}
 use Rattle.std.specs.Io.KnownBytes.{Appends}
 use Rattle.protocol_model.specs.Event.{Event as AnyEvent, Answer as AnyAnswer}
-use Rattle.protocol_model.specs.NamedEvents.{NamedEvent, At, AtNode, Deliver, Restart, NamedRefusal, NamedLine, Play, NamedOutput, Said, Error}
+use Rattle.protocol_model.specs.NamedEvents.{NamedEvent, At, AtNode, Deliver, Restart, NamedRefusal, Play, NamedOutput, Said, Error}
 use Rattle.cluster_world.specs.NodeNames.{NamedOpening}
 use Rattle.cluster_world.specs.NamedWorld.{NamedWorld, named_refusal, happens_named, accepted_named, named_answers}
 use Rattle.cluster_world.specs.NamedScript.{outputs_of, okay}
@@ -19,6 +19,7 @@ use Rattle.command_lines.specs.declared.faults.LineFault.{LineFault}
 use Rattle.command_lines.specs.declared.faults.LineFault.TheVariants.{Memory}
 use Rattle.text_lines.specs.declared.faults.WriteFault.{WriteFault}
 use Rattle.text_lines.specs.Writing.{AppendsPart, Writes}
+use Rattle.command_lines.specs.Grammar.{ScriptLine, Scripted}
 use Rattle.command_lines.specs.Printing.{answers_text, output_line, shown_text, error_line, word_of, word_for, refusal_word, is_fine, Shown, Shows}
 use Rattle.cluster_script.specs.Script.{Plays, Fails, shown}
 use Rattle.cluster_script.specs.Played.{PlaysLine, PlaysAsked, okay_text, shown_on}
@@ -136,7 +137,7 @@ play-fault old new f a b o n w = record {
 }
 
 -- memory is refused for a line, whatever it asks for
-pub refused-memory : (asked : Result NamedLine LineFault) (old new : Held) (a b : Option (List ℕ))
+pub refused-memory : (asked : Result ScriptLine LineFault) (old new : Held) (a b : Option (List ℕ))
     (r : Result Bool WriteFault)
     → names_of new ≡ names_of old → named new ≡ named old → Writes a b r (error_line (word_of Memory))
     → IfOk r (λ fine. fine ≡ false) → PlaysAsked asked old new a b r
@@ -153,13 +154,13 @@ refused-memory asked old new a b (Err f) o n w e =
 module _ (old new : Held) (e : NamedEvent) (o : names_of new ≡ names_of old) (n : named new ≡ named old) where
   pub event-refused : (r : Option NamedRefusal) → named_refusal (names_of old) (named old) e ≡ r
       → (a b : Option (List ℕ)) → Appends a b (error_line (word_for r))
-      → PlaysAsked (Ok (Play e)) old new a b (Ok false)
+      → PlaysAsked (Ok (Scripted (Play e))) old new a b (Ok false)
   event-refused None q a b w = (Fails Memory, inr refl, play-fault old new Memory a b o n w)
   event-refused (Some r) q a b w = (Plays (Play e), refl, play-refused old new e r a b q o n w)
 
   pub event-unwritten : (r : Option NamedRefusal) → named_refusal (names_of old) (named old) e ≡ r
       → (a b : Option (List ℕ)) → AppendsPart a b (error_line (word_for r)) → (f : WriteFault)
-      → PlaysAsked (Ok (Play e)) old new a b (Err f)
+      → PlaysAsked (Ok (Scripted (Play e))) old new a b (Err f)
   event-unwritten None q a b w f =
       (Fails Memory, inr refl, subst (λ (t : List ℕ). AppendsPart a b t) (text-fault old Memory) w)
   event-unwritten (Some r) q a b w f =

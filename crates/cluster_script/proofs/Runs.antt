@@ -5,7 +5,8 @@ use Rattle.std.specs.Str.Lines.{lines}
 use Rattle.std.specs.Io.KnownBytes.{Appends, Keeps}
 use Rattle.cluster_world.specs.NodeNames.{NamedOpening}
 use Rattle.cluster_world.specs.NamedWorld.{NamedWorld}
-use Rattle.protocol_model.specs.NamedEvents.{NamedLine, Settle}
+use Rattle.protocol_model.specs.NamedEvents.{Settle}
+use Rattle.command_lines.specs.Grammar.{ScriptLine, Scripted, Finish}
 use Rattle.cluster_world.specs.Held.{Held}
 use Rattle.cluster_world.specs.Seen.{names_of, named}
 use Rattle.command_lines.specs.declared.faults.LineFault.{LineFault}
@@ -20,7 +21,7 @@ use Rattle.command_lines.specs.Printing.{Shown, Refuses, error_line, word_of}
 use Rattle.text_lines.specs.Lines.{HasLines}
 use Rattle.text_lines.specs.Writing.{AppendsPart, stop_of}
 use Rattle.cluster_script.proofs.Agreeing.{lines_agree, lines_leave_nothing}
-use Rattle.cluster_script.specs.Script.{Outcome, Plays, Fails, Breaks, ComesTo, AllComeTo, shown_all, Prints, PrintsOn, PrintsSpoken, OpensNone, EndsRefused, Ran, Stopped, StoppedBetween, StoppedWithin, LineOpens, lone_line, played, opening_for}
+use Rattle.cluster_script.specs.Script.{Outcome, Plays, Fails, Breaks, Finishes, ComesTo, AllComeTo, shown_all, Prints, PrintsOn, PrintsSpoken, OpensNone, EndsRefused, Ran, Stopped, StoppedBetween, StoppedWithin, LineOpens, lone_line, played, opening_for}
 use Rattle.cluster_script.specs.Headers.{AllReadAs, OpensHeaders, OpensLone, StopsOpening, asked_first}
 use Rattle.cluster_script.specs.declared.header.Headers.TheVariants.{Open, Ended}
 use Rattle.command_lines.specs.declared.grammar.Task.{Task}
@@ -118,42 +119,49 @@ refused_ends [] rest f o = inl (left_none rest o.0)
 refused_ends (l ∷ ls) rest f o = inr (f, o)
 
 -- what comes of a line by what it was read as
-pub ComesTo-read : (line : List ℕ) (asked : Result NamedLine LineFault) (x : Outcome)
+pub ComesTo-read : (line : List ℕ) (asked : Result ScriptLine LineFault) (x : Outcome)
     → LineAsks line asked ⊎ (asked ≡ Err Memory) → ComesOf asked x → ComesTo line x
 ComesTo-read line asked (Plays l) h k = elim h [
-  | inl a ↦ subst (λ (r : Result NamedLine LineFault). LineAsks line r) k a
+  | inl a ↦ subst (λ (r : Result ScriptLine LineFault). LineAsks line r) k a
   | inr m ↦ absurd (ok_err (sym k ∙ m))
 ]
   where
-    ok_err : ◌≡◌ {A = Result NamedLine LineFault} (Ok l) (Err Memory) → ⊥
+    ok_err : ◌≡◌ {A = Result ScriptLine LineFault} (Ok (Scripted l)) (Err Memory) → ⊥
     ok_err z = cc
 ComesTo-read line asked (Fails f) h k = elim k [
   | inl q ↦
       elim h [
-        | inl a ↦ inl (subst (λ (r : Result NamedLine LineFault). LineAsks line r) q a)
+        | inl a ↦ inl (subst (λ (r : Result ScriptLine LineFault). LineAsks line r) q a)
         | inr m ↦ inr (same (sym q ∙ m))
       ]
   | inr m ↦ inr m
 ]
   where
-    same : ◌≡◌ {A = Result NamedLine LineFault} (Err f) (Err Memory) → f ≡ Memory
+    same : ◌≡◌ {A = Result ScriptLine LineFault} (Err f) (Err Memory) → f ≡ Memory
     same z = cc
 ComesTo-read line asked (Breaks made) h k = elim h [
-  | inl a ↦ (subst (λ (r : Result NamedLine LineFault). LineAsks line r) k.0 a, k.1)
+  | inl a ↦ (subst (λ (r : Result ScriptLine LineFault). LineAsks line r) k.0 a, k.1)
   | inr m ↦ absurd (ok_err (sym k.0 ∙ m))
 ]
   where
-    ok_err : ◌≡◌ {A = Result NamedLine LineFault} (Ok Settle) (Err Memory) → ⊥
+    ok_err : ◌≡◌ {A = Result ScriptLine LineFault} (Ok (Scripted Settle)) (Err Memory) → ⊥
+    ok_err z = cc
+ComesTo-read line asked (Finishes made) h k = elim h [
+  | inl a ↦ subst (λ (r : Result ScriptLine LineFault). LineAsks line r) k a
+  | inr m ↦ absurd (ok_err (sym k ∙ m))
+]
+  where
+    ok_err : ◌≡◌ {A = Result ScriptLine LineFault} (Ok Finish) (Err Memory) → ⊥
     ok_err z = cc
 
 -- a line that was read already is the first that is played, or was a `lone` line
-AllComeTo-played : (m : List ℕ) (ls : List (List ℕ)) (asked : List (Result NamedLine LineFault))
+AllComeTo-played : (m : List ℕ) (ls : List (List ℕ)) (asked : List (Result ScriptLine LineFault))
     (first outcomes : List Outcome)
     → AllReadAs (played (m ∷ [])) asked → AllComeOf asked first → AllComeTo ls outcomes
     → AllComeTo (played (m ∷ ls)) (first ++ outcomes)
 AllComeTo-played m ls asked first outcomes h c k = go (is_some (lone_line m)) asked first h c
   where
-    go : (b : Bool) (asked : List (Result NamedLine LineFault)) (first : List Outcome)
+    go : (b : Bool) (asked : List (Result ScriptLine LineFault)) (first : List Outcome)
         → AllReadAs (if b then [] else m ∷ []) asked → AllComeOf asked first
         → AllComeTo (if b then ls else m ∷ ls) (first ++ outcomes)
     go true [] [] h c = k

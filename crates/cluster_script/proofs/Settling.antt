@@ -19,9 +19,11 @@ use Rattle.command_lines.specs.declared.Answer.{Answer}
 use Rattle.command_lines.specs.declared.WorldEvent.{WorldEvent}
 use Rattle.text_lines.specs.declared.faults.WriteFault.{WriteFault}
 use Rattle.command_lines.specs.declared.faults.LineFault.TheVariants.{Memory}
-use Rattle.command_lines.specs.Printing.{answers_text, output_line, error_line, word_of, shown_text, is_fine, is_fine_output, Shown, Shows, Refuses}
+use Rattle.command_lines.specs.Grammar.{Scripted}
+use Rattle.command_lines.specs.Printing.{answers_text, output_line, error_line, word_of, shown_line, shown_text, is_fine, is_fine_output, Shown, Shows, Refuses}
 use Rattle.text_lines.specs.Writing.{AppendsPart, Writes}
 use Rattle.std.proofs.lemmas.List.Sums.{fold-append}
+use Rattle.cluster_world.proofs.Settling.{settle-next, settle-none}
 use Rattle.cluster_script.proofs.Given.{given-next, given-push}
 use Rattle.cluster_script.specs.Script.{Plays, Breaks, settle_limit, given_in, broken, shown}
 use Rattle.cluster_script.specs.Played.{PlaysOrStops, PlaysAsked, shown_on, settle_end}
@@ -36,25 +38,13 @@ pub settle_limit-is : settle_limit ≡ 100000
 unfolding settle_limit
 settle_limit-is = refl
 
--- the deliveries of `settle` from a world on, at most m of them
+-- the deliveries of `settle` from a world on
 module _ (o : NamedOpening) where
-  -- the next delivery, and those behind it
-  pub settle-next : (m : ℕ) (w : NamedWorld) (e : NamedEvent) → next_named o w ≡ Some e → named_deliveries_left o (suc m) w ≡ e
-      ∷ named_deliveries_left o m (happens_named o w e)
-  settle-next m w e h = ap (λ (x : Option NamedEvent). elim x as (λ _. List NamedEvent)
-      [ None ↦ [] | Some e ↦ e ∷ named_deliveries_left o m (happens_named o w e) ]) h
-
-  -- none, where no letter waits
-  pub settle-none : (m : ℕ) (w : NamedWorld) → next_named o w ≡ None → named_deliveries_left o m w ≡ []
-  settle-none zero w h = refl
-  settle-none (suc m) w h = ap (λ (x : Option NamedEvent). elim x as (λ _. List NamedEvent)
-      [ None ↦ [] | Some e ↦ e ∷ named_deliveries_left o m (happens_named o w e) ]) h
-
   -- one delivery more
   pub deliveries-push : (k : ℕ) (w : NamedWorld) (e : NamedEvent)
       → next_named o (run_named o w (named_deliveries_left o k w)) ≡ Some e
       → named_deliveries_left o (suc k) w ≡ named_deliveries_left o k w ++ e ∷ []
-  deliveries-push zero w e h = settle-next zero w e h
+  deliveries-push zero w e h = settle-next o zero w e h
   deliveries-push (suc k) w e h = go (next_named o w) refl (λ v next. deliveries-push k v e next)
     where
       go : (r : Option NamedEvent) → next_named o w ≡ r
@@ -63,17 +53,17 @@ module _ (o : NamedOpening) where
           → named_deliveries_left o (suc (suc k)) w ≡ named_deliveries_left o (suc k) w ++ e ∷ []
       go None q behind =
           let none : next_named o w ≡ Some e =
-          subst (λ (es : List NamedEvent). next_named o (run_named o w es) ≡ Some e) (settle-none (suc k) w q) h in
+          subst (λ (es : List NamedEvent). next_named o (run_named o w es) ≡ Some e) (settle-none o (suc k) w q) h in
           absurd (some_none e (sym none ∙ q))
         where
           some_none : (d : NamedEvent) → Some d ≡ None → ⊥
           some_none d z = cc
       go (Some d) q behind =
           let v = happens_named o w d in
-          let first = settle-next k w d q in
+          let first = settle-next o k w d q in
           let next : next_named o (run_named o v (named_deliveries_left o k v)) ≡ Some e =
           subst (λ (es : List NamedEvent). next_named o (run_named o w es) ≡ Some e) first h in
-          settle-next (suc k) w d q
+          settle-next o (suc k) w d q
           ∙ ap (λ (es : List NamedEvent). d ∷ es) (behind v next)
           ∙ ap (λ (es : List NamedEvent). es ++ e ∷ []) (sym first)
 
@@ -209,17 +199,17 @@ pub Said-fine-last : (given : List AnyAnswer) (x : NamedOutput) → list_all is_
 Said-fine-last [] x = and-true (is_fine_output x)
 Said-fine-last (s ∷ given) x = Said-fine-last given x
 
--- answers, and memory is refused
-pub Broken-text : (given : List AnyAnswer) → shown_text (map Shows (map Said given) ++ Refuses Memory ∷ [])
-    ≡ answers_text given ++ error_line (word_of Memory)
-Broken-text [] = append-nil (error_line (word_of Memory))
-Broken-text (s ∷ given) =
-    ap (λ (t : List ℕ). output_line (Said s) ++ t) (Broken-text given)
-    ∙ sym (append_assoc (output_line (Said s)) (answers_text given) (error_line (word_of Memory)))
+-- answers, and what ends them
+pub Ended-text : (given : List AnyAnswer) (x : Shown) → shown_text (map Shows (map Said given) ++ x ∷ [])
+    ≡ answers_text given ++ shown_line x
+Ended-text [] x = append-nil (shown_line x)
+Ended-text (s ∷ given) x =
+    ap (λ (t : List ℕ). output_line (Said s) ++ t) (Ended-text given x)
+    ∙ sym (append_assoc (output_line (Said s)) (answers_text given) (shown_line x))
 
-pub Broken-fine : (given : List AnyAnswer) → list_all is_fine (map Shows (map Said given) ++ Refuses Memory ∷ []) ≡ false
-Broken-fine [] = refl
-Broken-fine (s ∷ given) = Broken-fine given
+pub Ended-fine : (given : List AnyAnswer) (x : Shown) → list_all is_fine (map Shows (map Said given) ++ x ∷ []) ≡ is_fine x
+Ended-fine [] x = and-true (is_fine x)
+Ended-fine (s ∷ given) x = Ended-fine given x
 
 -- what `settle` prints
 pub settle-text : (h : Held) → shown_on h (Plays Settle)
@@ -313,14 +303,14 @@ module _ (k : ℕ) (old now : Held) (a b : Option (List ℕ)) (S : Settles k old
         ∙ ap (λ (ss : List AnyAnswer). map Shows (map Said ss) ++ Refuses Memory ∷ []) (sym S.said)
 
     text-broken : shown_on old (Breaks k) ≡ answers_text S.given ++ error_line (word_of Memory)
-    text-broken = ap shown_text shown-broken ∙ Broken-text S.given
+    text-broken = ap shown_text shown-broken ∙ Ended-text S.given (Refuses Memory)
 
     within : k < settle_limit
     within = subst (λ (n : ℕ). k < n) (sym settle_limit-is) l
 
     pub settle-broken : (new : Held) (c d : Option (List ℕ)) → names_of new ≡ names_of now → named new ≡ named now
         → c ≡ b → (r : Result Bool WriteFault) → Writes c d r (error_line (word_of Memory))
-        → IfOk r (λ fine. fine ≡ false) → PlaysAsked (Ok Settle) old new a d r
+        → IfOk r (λ fine. fine ≡ false) → PlaysAsked (Ok (Scripted Settle)) old new a d r
     settle-broken new c d o n same (Err f) w q = (
       Breaks k,
       (refl, within),
@@ -337,7 +327,7 @@ module _ (k : ℕ) (old now : Held) (a b : Option (List ℕ)) (S : Settles k old
         wrote = subst (λ (t : List ℕ). Appends a d t) (sym text-broken)
             (Appends-trans a b d (answers_text S.given) (error_line (word_of Memory)) S.wrote
             (subst (λ (x : Option (List ℕ)). Appends x d (error_line (word_of Memory))) same w));
-        fine_is = q ∙ sym (ap (λ (ss : List Shown). list_all is_fine ss) shown-broken ∙ Broken-fine S.given);
+        fine_is = q ∙ sym (ap (λ (ss : List Shown). list_all is_fine ss) shown-broken ∙ Ended-fine S.given (Refuses Memory));
       },
     )
 

@@ -16,6 +16,7 @@ use Rattle.cluster_world.specs.NodeNames.{is_name}
 use Rattle.cluster_world.specs.NamedScript.{shown_at}
 use Rattle.cluster_world.specs.Held.{Held, nodes_of as nodes_in}
 use Rattle.cluster_world.specs.Seen.{names_of, named}
+use Rattle.command_lines.specs.Grammar.{Scripted}
 use Rattle.command_lines.specs.Printing.{output_line, error_line, refusal_word, is_fine, is_fine_output, shown_text, Shown, Shows}
 use Rattle.text_lines.specs.declared.faults.WriteFault.{WriteFault}
 use Rattle.text_lines.specs.Writing.{AppendsPart, Writes}
@@ -90,7 +91,7 @@ module _ (h : Held) (l : NamedLine) (x : NamedOutput) (s : shown (names_of h) (n
   text_of = sym (append-nil (output_line x)) ∙ sym (ap shown_text s)
 
   pub PlaysAsked-shown : (r : Result Bool WriteFault) → Writes a b r (output_line x)
-      → IfOk r (λ fine. fine ≡ is_fine_output x) → PlaysAsked (Ok l) h h a b r
+      → IfOk r (λ fine. fine ≡ is_fine_output x) → PlaysAsked (Ok (Scripted l)) h h a b r
   PlaysAsked-shown (Err f) w q = (Plays l, refl, subst (λ (t : List ℕ). AppendsPart a b t) text_of w)
   PlaysAsked-shown (Ok fine) w q = (
     Plays l,
@@ -110,8 +111,8 @@ pub PlaysAsked-node : {E : Type 0} (h : Held) (x : ℕ) (output : NamedOutput) (
     → (old new : Option (List ℕ)) (r : Result Bool WriteFault)
     → IfOk line (λ line. IsShown h x output (option_map string_bytes line))
     → Writes old new r (text_for h x (made_of (option_map string_bytes) line)) → IfOk r (λ fine. fine ≡ has_line line)
-    → PlaysAsked (Ok l) h h old new r
-PlaysAsked-node h x output l (Err f) s same old new r i w q = refused-memory (Ok l) h h old new r refl refl w q
+    → PlaysAsked (Ok (Scripted l)) h h old new r
+PlaysAsked-node h x output l (Err f) s same old new r i w q = refused-memory (Ok (Scripted l)) h h old new r refl refl w q
 PlaysAsked-node h x output l (Ok line) s same old new r i w q =
     PlaysAsked-shown h l (shown_at (names_of h) (named h) (text_in x) output) s same old new r
     (subst (λ (t : List ℕ). Writes old new r t) i.text w)

@@ -1,6 +1,5 @@
 -- What it comes to that the headers of a script are read.
 use Rattle.std.specs.Prelude.{ℕ, ◌≡◌, ◌⊎◌, ◌+◌, List, [], ◌∷◌, map, option_to_list, Option, Some, None, Result, Ok, Err}
-use Rattle.protocol_model.specs.NamedEvents.{NamedLine}
 use Rattle.term.specs.declared.faults.TextFault.{TextFault}
 use Rattle.cluster_world.specs.Held.{Held}
 use Rattle.cluster_world.specs.NodeNames.{NamedOpening}
@@ -12,6 +11,7 @@ use Rattle.command_lines.specs.declared.faults.LineFault.{LineFault}
 use Rattle.command_lines.specs.declared.faults.LineFault.TheVariants.{Text, Start, Memory}
 use Rattle.text_lines.specs.declared.faults.StreamFault.{StreamFault}
 use Rattle.command_lines.specs.declared.grammar.Task.{Task}
+use Rattle.command_lines.specs.Grammar.{ScriptLine}
 use Rattle.command_lines.specs.Commands.{LineAsks, asked_by}
 use Rattle.text_lines.specs.Lines.{spoken, count_of_all, LosesLines, LosesInto, HasNoLine, MayEndIn, GoesPastFor}
 use Rattle.cluster_script.specs.Script.{ReadsTexts, LineOpens, LoneOpens, PrintsSpoken, PrintsOn, OpensNone, opening_for, played}
@@ -55,13 +55,13 @@ OpensCluster line (Ok c) = LineOpens line (Ok c.nodes.items) × Starts c.nodes.i
 OpensCluster line (Err f) = LineOpens line (Err f)
 
 -- what each of these lines was read as, unless memory was refused for it
-abbrev pub AllReadAs : List (List ℕ) → List (Result NamedLine LineFault) → Type 0
+abbrev pub AllReadAs : List (List ℕ) → List (Result ScriptLine LineFault) → Type 0
 AllReadAs [] [] = Unit {0}
 AllReadAs (l ∷ ls) (asked ∷ others) = (LineAsks l asked ⊎ (asked ≡ Err Memory)) × AllReadAs ls others
 AllReadAs _ _ = ⊥
 
 -- what was read already, as what the first line that is played asks for
-abbrev pub asked_first : Option (Result Task LineFault) → List (Result NamedLine LineFault)
+abbrev pub asked_first : Option (Result Task LineFault) → List (Result ScriptLine LineFault)
 asked_first first = map asked_by (option_to_list first)
 
 -- what was made of the line behind the `cluster` line

@@ -4,7 +4,7 @@ use Rattle.std.specs.List.{list_all}
 use Rattle.std.specs.Io.KnownBytes.{Appends}
 use Rattle.registry_model.specs.Process.{nodes_of}
 use Rattle.protocol_model.specs.Event.{NoSuchNode, NodeLeft}
-use Rattle.protocol_model.specs.NamedEvents.{NamedRefusal, Plain, NamedLine, Settle, NamedOutput, Settled, SettleLimit, TableIs, MembersAre}
+use Rattle.protocol_model.specs.NamedEvents.{NamedRefusal, Plain, Settle, NamedOutput, Settled, SettleLimit, TableIs, MembersAre}
 use Rattle.term.specs.Nodes.{text_in}
 use Rattle.command_lines.specs.declared.WorldEvent.{WorldEvent}
 use Rattle.command_lines.specs.Events.{named_event}
@@ -22,9 +22,10 @@ use Rattle.text_lines.specs.declared.faults.StreamFault.TheVariants.{Read, TooMa
 use Rattle.text_lines.specs.declared.faults.WriteFault.{WriteFault}
 use Rattle.text_lines.specs.declared.lines.Line.{Line}
 use Rattle.text_lines.specs.Lines.{spoken, count_of_all, IsKept, LosesLines, LosesInto, HasNoLine, MayEndIn, GoesPastFor}
+use Rattle.command_lines.specs.Grammar.{ScriptLine, Scripted, Finish}
 use Rattle.command_lines.specs.Printing.{Shows, shown_text, is_fine, is_fine_output, output_line, error_line, refusal_word, word_of}
 use Rattle.text_lines.specs.Writing.{AppendsPart, Growth}
-use Rattle.cluster_script.specs.Script.{Outcome, Plays, Fails, Breaks, ComesTo, AllComeTo, settle_limit, behind, behind_all, shown, shown_all}
+use Rattle.cluster_script.specs.Script.{Outcome, Plays, Fails, Breaks, Finishes, ComesTo, AllComeTo, settle_limit, behind, behind_all, shown, shown_all}
 
 -- what is printed for a line on what is held
 abbrev pub shown_on : Held → Outcome → List ℕ
@@ -43,19 +44,20 @@ PlaysOrStops old new x before after (Ok fine) = PlaysLine old new x before after
 PlaysOrStops old new x before after (Err f) = AppendsPart before after (shown_on old x)
 
 -- what may come of what was read as this: memory may be refused for it
-abbrev pub ComesOf : Result NamedLine LineFault → Outcome → Type 0
-ComesOf asked (Plays l) = asked ≡ Ok l
+abbrev pub ComesOf : Result ScriptLine LineFault → Outcome → Type 0
+ComesOf asked (Plays l) = asked ≡ Ok (Scripted l)
 ComesOf asked (Fails f) = (asked ≡ Err f) ⊎ (f ≡ Memory)
-ComesOf asked (Breaks made) = (asked ≡ Ok Settle) × (made < settle_limit)
+ComesOf asked (Breaks made) = (asked ≡ Ok (Scripted Settle)) × (made < settle_limit)
+ComesOf asked (Finishes made) = asked ≡ Ok Finish
 
 -- and of what was read as these, of each by itself
-abbrev pub AllComeOf : List (Result NamedLine LineFault) → List Outcome → Type 0
+abbrev pub AllComeOf : List (Result ScriptLine LineFault) → List Outcome → Type 0
 AllComeOf [] [] = Unit {0}
 AllComeOf (asked ∷ others) (x ∷ outcomes) = ComesOf asked x × AllComeOf others outcomes
 AllComeOf _ _ = ⊥
 
 -- what was read as this was played, or stopped at
-abbrev pub PlaysAsked : Result NamedLine LineFault → Held → Held → Option (List ℕ) → Option (List ℕ) → Result Bool WriteFault → Type 0
+abbrev pub PlaysAsked : Result ScriptLine LineFault → Held → Held → Option (List ℕ) → Option (List ℕ) → Result Bool WriteFault → Type 0
 PlaysAsked asked old new before after r = (x : Outcome) × ComesOf asked x × PlaysOrStops old new x before after r
 
 -- a line was read and played, or stopped at
@@ -166,7 +168,7 @@ PlaysAll first input rest most left old new before after (Ok fine) =
 PlaysAll first input rest most left old new before after (Err f) = StopsPlaying first input rest most old before after f
 
 -- the same, where something was read already as this
-abbrev pub PlaysBehind : List (Result NamedLine LineFault) → Option (List ℕ) → Option (List ℕ) → ℕ → ℕ → Held → Held
+abbrev pub PlaysBehind : List (Result ScriptLine LineFault) → Option (List ℕ) → Option (List ℕ) → ℕ → ℕ → Held → Held
     → Option (List ℕ) → Option (List ℕ) → Result Bool StreamFault → Type 0
 PlaysBehind asked input rest most left old new before after r = (first : List Outcome) × AllComeOf asked first
     × PlaysAll first input rest most left old new before after r

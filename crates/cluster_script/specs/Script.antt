@@ -12,6 +12,7 @@ use Rattle.cluster_world.specs.NamedWorld.{NamedWorld, opening_named, run_named,
 use Rattle.cluster_world.specs.NamedScript.{events_in, printed, next_named, named_deliveries_left}
 use Rattle.cluster_world.specs.NamedLeftovers.{NothingIsLeftOfNames}
 use Rattle.cluster_world.specs.Openings.{named_opening}
+use Rattle.cluster_world.specs.Finishing.{next_to_finish, finishing_left}
 use Rattle.cluster_world.specs.Agreeing.{HeadlineAfter}
 use Rattle.command_lines.specs.Openings.{start_refused}
 use Rattle.command_lines.specs.declared.faults.LineFault.{LineFault}
@@ -23,24 +24,28 @@ use Rattle.text_lines.specs.Lines.{HasLines, spoken, count_of_all, most_lines, L
 use Rattle.text_lines.specs.Words.{words}
 use Rattle.text_lines.specs.Writing.{AppendsPart}
 use Rattle.command_lines.specs.Commands.{unread, LineAsks}
-use Rattle.command_lines.specs.Printing.{Shown, Shows, Refuses, shown_text, is_fine}
+use Rattle.command_lines.specs.Grammar.{Scripted, Finish}
+use Rattle.command_lines.specs.Printing.{Shown, Shows, Refuses, Finished, shown_text, is_fine}
 
 -- the most deliveries of one `settle`
 unfoldable pub settle_limit : ℕ
 settle_limit = 100000
 
 -- what comes of a line that isn't empty: what it asks for is played; or it is refused, and nothing is played; or it is a
--- `settle` to which memory is refused behind so many of its deliveries
+-- `settle` to which memory is refused behind so many of its deliveries; or it is a `finish`, of which so many events are played,
+-- and where others come behind them memory is refused
 pub data Outcome : Type 0 where
   Plays : (line : NamedLine) → Outcome
   Fails : (fault : LineFault) → Outcome
   Breaks : (made : ℕ) → Outcome
+  Finishes : (made : ℕ) → Outcome
 
 -- what may come of a line: for any line memory may be refused, whatever it asks for
 abbrev pub ComesTo : List ℕ → Outcome → Type 0
-ComesTo line (Plays l) = LineAsks line (Ok l)
+ComesTo line (Plays l) = LineAsks line (Ok (Scripted l))
 ComesTo line (Fails f) = LineAsks line (Err f) ⊎ (f ≡ Memory)
-ComesTo line (Breaks made) = LineAsks line (Ok Settle) × (made < settle_limit)
+ComesTo line (Breaks made) = LineAsks line (Ok (Scripted Settle)) × (made < settle_limit)
+ComesTo line (Finishes made) = LineAsks line (Ok Finish)
 
 -- what may come of these lines, of each by itself
 abbrev pub AllComeTo : List (List ℕ) → List Outcome → Type 0
@@ -53,6 +58,7 @@ abbrev pub events_by : NamedOpening → NamedWorld → Outcome → List NamedEve
 events_by o w (Plays l) = events_in o settle_limit w l
 events_by o w (Fails f) = []
 events_by o w (Breaks made) = named_deliveries_left o made w
+events_by o w (Finishes made) = finishing_left o made w
 
 -- the world behind a line
 abbrev pub behind : NamedOpening → NamedWorld → Outcome → NamedWorld
@@ -63,6 +69,11 @@ abbrev pub broken : Option NamedEvent → Shown
 broken None = Shows Settled
 broken (Some e) = Refuses Memory
 
+-- what stands behind the answers of a `finish`, by what comes next
+abbrev pub ended : Option NamedEvent → Shown
+ended None = Finished
+ended (Some e) = Refuses Memory
+
 -- all that is answered in these events, in order
 abbrev pub given_in : NamedOpening → NamedWorld → List NamedEvent → List Answer
 given_in o w es = all_answers (opening_of o) w.world (plain_events o w es)
@@ -72,6 +83,7 @@ abbrev pub shown_for : NamedOpening → NamedWorld → Outcome → List NamedEve
 shown_for o w (Plays l) es = map Shows (printed o w l es)
 shown_for o w (Fails f) es = Refuses f ∷ []
 shown_for o w (Breaks made) es = map Shows (map Said (given_in o w es)) ++ broken (next_named o (run_named o w es)) ∷ []
+shown_for o w (Finishes made) es = map Shows (map Said (given_in o w es)) ++ ended (next_to_finish o (run_named o w es)) ∷ []
 
 abbrev pub shown : NamedOpening → NamedWorld → Outcome → List Shown
 shown o w x = shown_for o w x (events_by o w x)

@@ -6,6 +6,7 @@ ghost use Rattle.term.specs.NodeSets.{set_of};
 ghost use Rattle.cluster_world.specs.NodeNames.{is_name};
 ghost use Rattle.cluster_world.specs.Held.{nodes_of};
 ghost use Rattle.cluster_world.specs.Seen.{names_of};
+ghost use Rattle.command_lines.specs.Grammar.{Scripted};
 ghost use Rattle.command_lines.specs.Printing.{error_line, refusal_word};
 ghost use Rattle.text_lines.specs.Writing.{Writes};
 ghost use Rattle.cluster_script.specs.Script.{made_of};
@@ -112,7 +113,7 @@ pub(crate) fn show_table<W: Write>(
     world: &ScriptWorld,
     name: &NodeName,
 ) -> Result<bool, WriteFault>
-    ensures { PlaysAsked (Ok (TableAt (text_in name.now))) world.now world.now (W.contents writer.old) (W.contents writer.new) result }
+    ensures { PlaysAsked (Ok (Scripted (TableAt (text_in name.now)))) world.now world.now (W.contents writer.old) (W.contents writer.new) result }
 {
     write_shown(writer, world, name, line_of_table(alloc, world, name))
 }
@@ -124,7 +125,7 @@ pub(crate) fn show_members<W: Write>(
     world: &ScriptWorld,
     name: &NodeName,
 ) -> Result<bool, WriteFault>
-    ensures { PlaysAsked (Ok (MembersAt (text_in name.now))) world.now world.now (W.contents writer.old) (W.contents writer.new) result }
+    ensures { PlaysAsked (Ok (Scripted (MembersAt (text_in name.now)))) world.now world.now (W.contents writer.old) (W.contents writer.new) result }
 {
     write_shown(writer, world, name, line_of_members(alloc, world, name))
 }

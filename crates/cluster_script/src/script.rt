@@ -8,6 +8,7 @@ ghost use Rattle.command_lines.specs.Events.{named_event, own_event_of};
 ghost use Rattle.term.specs.Nodes.{text_in};
 ghost use Rattle.command_lines.specs.Commands.{asked_by, line_in};
 ghost use Rattle.text_lines.specs.Lines.{IsKept, most_lines};
+ghost use Rattle.command_lines.specs.Grammar.{Scripted, Finish};
 ghost use Rattle.command_lines.specs.Printing as print;
 ghost use Rattle.text_lines.specs.Writing.{Writes};
 ghost use Rattle.cluster_script.specs.Script.{Ran, Stopped};
@@ -88,7 +89,7 @@ fn play_event<W: Write>(
     world: &mut ScriptWorld,
     event: &WorldEvent,
 ) -> Result<bool, WriteFault>
-    ensures { PlaysAsked (Ok (script.Play (named_event event.now))) world.old world.new (W.contents writer.old) (W.contents writer.new) result }
+    ensures { PlaysAsked (Ok (Scripted (script.Play (named_event event.now)))) world.old world.new (W.contents writer.old) (W.contents writer.new) result }
 {
     match world.play(event) {
         Ok(answers) => {
@@ -111,7 +112,7 @@ fn play_at<W: Write>(
     name: &NodeName,
     event: Event,
 ) -> Result<bool, WriteFault>
-    ensures { PlaysAsked (Ok (script.Play (script.At (text_in name.now) (own_event_of event)))) world.old world.new
+    ensures { PlaysAsked (Ok (Scripted (script.Play (script.At (text_in name.now) (own_event_of event))))) world.old world.new
         (W.contents writer.old) (W.contents writer.new) result }
 {
     let Some(node) = node_at(world, name) else {
@@ -141,7 +142,7 @@ fn settle<W: Write>(
     writer: &mut W,
     world: &mut ScriptWorld,
 ) -> Result<bool, WriteFault>
-    ensures { PlaysAsked (Ok script.Settle) world.old world.new (W.contents writer.old) (W.contents writer.new) result }
+    ensures { PlaysAsked (Ok (Scripted script.Settle)) world.old world.new (W.contents writer.old) (W.contents writer.new) result }
 {
     for _ in 0..SETTLE_LIMIT {
         match world.deliver_next() {
@@ -151,6 +152,36 @@ fn settle<W: Write>(
         }
     }
     end_settle(writer, world.waiting().is_none())
+}
+
+/// Writes that a world is finished.
+fn end_finish<W: Write>(writer: &mut W) -> Result<bool, WriteFault>
+    ensures text { Writes (W.contents writer.old) (W.contents writer.new) result (print.shown_line print.Finished) }
+    ensures fine { IfOk result (λ fine. fine ≡ true) }
+{
+    write_text(writer, b"finished\n")?;
+    Ok(true)
+}
+
+/// Delivers and retries refused registrars until the world is finished, or memory is refused for an event, and writes all answers:
+/// whether it is finished then.
+fn finish<W: Write>(
+    alloc: Global,
+    writer: &mut W,
+    world: &mut ScriptWorld,
+) -> Result<bool, WriteFault>
+    ensures { PlaysAsked (Ok Finish) world.old world.new (W.contents writer.old) (W.contents writer.new) result }
+{
+    match world.finish() {
+        Ok(answers) => {
+            write_answers(alloc, writer, &answers)?;
+            end_finish(writer)
+        }
+        Err(stop) => {
+            write_answers(alloc, writer, &stop.answers)?;
+            refuse_memory(writer)
+        }
+    }
 }
 
 /// Plays a task, and writes what it prints: whether no refusal is printed.
@@ -166,6 +197,7 @@ fn play_asked<W: Write>(
         Task::Play(event) => play_event(alloc, writer, world, &event),
         Task::At(name, event) => play_at(alloc, writer, world, &name, event),
         Task::Settle => settle(alloc, writer, world),
+        Task::Finish => finish(alloc, writer, world),
         Task::Table(name) => show_table(alloc, writer, world, &name),
         Task::Members(name) => show_members(alloc, writer, world, &name),
     }
@@ -256,12 +288,12 @@ fn play_all<R: Read, W: Write>(
 /// Plays a script, and writes what it prints: whether no refusal is printed.
 ///
 /// Its first line that isn't empty names the nodes of the cluster, and the next one may name lone nodes; each other line asks
-/// for an event, or for deliveries until no letter waits. A line that is refused prints the word for it and changes nothing;
+/// for an event, for deliveries until no letter waits, or for these and retries until nothing waits but lock calls. A line that is refused prints the word for it and changes nothing;
 /// where there is no world, the script ends, and no further byte is read. What was written is handed on before the reader
 /// waits for more.
 ///
 /// Memory may be refused for any line: it is refused like any other then, by `error memory`, and plays nothing. Where that comes
-/// among the deliveries of a `settle`, those before it stand, and `error memory` takes the place of `settled`.
+/// among the events of a `settle` or a `finish`, those before it stand, and `error memory` takes the place of `settled` or `finished`.
 ///
 /// `TooManyLines` is answered only where a line takes the count past 1,000,000; that line isn't played, and all is written that
 /// those before it print, as after `Read`. `Memory` is answered only where a line can't be read, or can't be made of what was played.

@@ -31,10 +31,10 @@ use Rattle.node_core.specs.NodeEventsSeen.{answer_of}
 use Rattle.world_events.specs.declared.events.WorldEvent.{WorldEvent}
 use Rattle.cluster_world.specs.Held.{Held}
 use Rattle.cluster_world.specs.Seen.{names_of, seen, named}
-use Rattle.cluster_world.specs.Playing.{events_of, accepts_all, answers_to_all}
+use Rattle.cluster_world.specs.Playing.{WentThrough, events_of, accepts_all, answers_to_all}
 use Rattle.cluster_world.specs.Locks.{try_behind}
 use Rattle.cluster_world.specs.Counting.{is_granted, has_to_ask, unless_gone, CountsGrant, CountsDeletion, Counts}
-use Rattle.cluster_world.specs.Seats.{verdict_in, next_number, next_for, awaiting, until_answered, WentThrough}
+use Rattle.cluster_world.specs.Seats.{verdict_in, next_number, next_for, awaiting, until_answered}
 use Rattle.protocol_model.proofs.Courses.{course_answers, answers-append}
 use Rattle.cluster_world.proofs.Agreeing.{answers_are}
 use Rattle.cluster_world.proofs.OneEvent.{IsOne, one_at, one_more, one_then}
@@ -288,7 +288,7 @@ home_of w a p r more h = eqb-true p.node a (live_own a (w.node a).watch p
     (lock_tested a (w.node a) p r more h).0).0
 
 module _ (es : List WorldEvent) (given : List Answer) (old new : Held) (most : ℕ) (v : Option Bool)
-    (W : WentThrough es old new given) where
+    (W : WentThrough es old new [] given) where
   abbrev o : NamedOpening
   o = names_of old
 

@@ -25,48 +25,78 @@ use Rattle.cluster_world.proofs.Succeeding.{contains_set}
 use Rattle.cluster_world.proofs.Untold.{core_seen}
 use Rattle.cluster_world.proofs.Steps.{core_name}
 
--- nobody holds among the first i cores
+-- none of the first i cores passes
+abbrev pub NonePasses : (Core → Bool) → ℕ → List Core → Type 0
+NonePasses q i cs = (k : ℕ) (d : Core) → k < i → q (get_or cs k d) ≡ false
+
+-- nobody holds among them
 abbrev pub NobodyBefore : List ℕ → ℕ → List Core → Type 0
-NobodyBefore w i cs = (k : ℕ) (d : Core) → k < i → is_holding w (get_or cs k d) ≡ false
+NobodyBefore w i cs = NonePasses (is_holding w) i cs
 
--- a search for a name is a search for its core
-found_by_name : (w : List ℕ) (p : ℕ → Bool) (cs : List Core) → ((k : ℕ) (d : Core) → k < length cs
-    → p (get_or cs k d).name ≡ is_holding w (get_or cs k d))
-    → find p (map core_name cs) ≡ option_map core_name (find (is_holding w) cs)
-found_by_name w p [] same = refl
-found_by_name w p (c ∷ cs) same = ap (λ (b : Bool). if b then Some c.name else find p (map core_name cs))
-    (same 0 c (omega arith))
-    ∙ go (is_holding w c) (found_by_name w p cs (λ k d l. same (suc k) d (omega arith)))
-  where
-    go : (b : Bool) → find p (map core_name cs) ≡ option_map core_name (find (is_holding w) cs)
-        → (if b then Some c.name else find p (map core_name cs))
-        ≡ option_map core_name (if b then Some c else find (is_holding w) cs)
-    go true e = refl
-    go false e = e
+module _ (q : Core → Bool) where
+  -- a search for a name is a search for its core
+  pub found_by_name : (p : ℕ → Bool) (cs : List Core) → ((k : ℕ) (d : Core) → k < length cs
+      → p (get_or cs k d).name ≡ q (get_or cs k d))
+      → find p (map core_name cs) ≡ option_map core_name (find q cs)
+  found_by_name p [] same = refl
+  found_by_name p (c ∷ cs) same = ap (λ (b : Bool). if b then Some c.name else find p (map core_name cs))
+      (same 0 c (omega arith))
+      ∙ go (q c) (found_by_name p cs (λ k d l. same (suc k) d (omega arith)))
+    where
+      go : (b : Bool) → find p (map core_name cs) ≡ option_map core_name (find q cs)
+          → (if b then Some c.name else find p (map core_name cs))
+          ≡ option_map core_name (if b then Some c else find q cs)
+      go true e = refl
+      go false e = e
 
-found_none : (w : List ℕ) (cs : List Core) → NobodyBefore w (length cs) cs → find (is_holding w) cs ≡ None
-found_none w [] none = refl
-found_none w (c ∷ cs) none =
-    ap (λ (b : Bool). if b then Some c else find (is_holding w) cs) (none 0 c (omega arith))
-    ∙ found_none w cs (λ k d l. none (suc k) d (omega arith))
+  found_none : (cs : List Core) → NonePasses q (length cs) cs → find q cs ≡ None
+  found_none [] none = refl
+  found_none (c ∷ cs) none =
+      ap (λ (b : Bool). if b then Some c else find q cs) (none 0 c (omega arith))
+      ∙ found_none cs (λ k d l. none (suc k) d (omega arith))
 
-found_some : (w : List ℕ) (cs : List Core) (i : ℕ) (c : Core) → i < length cs → NobodyBefore w i cs
-    → is_holding w (get_or cs i c) ≡ true → find (is_holding w) cs ≡ Some (get_or cs i c)
-found_some w [] i c l none here = absurd (omega arith)
-found_some w (d ∷ cs) zero c l none here = ap (λ (b : Bool). if b then Some d else find (is_holding w) cs) here
-found_some w (d ∷ cs) (suc i) c l none here = ap (λ (b : Bool). if b then Some d else find (is_holding w) cs)
-    (none 0 c (omega arith))
-    ∙ found_some w cs i c (omega arith) (λ k e m. none (suc k) e (omega arith)) here
+  found_some : (cs : List Core) (i : ℕ) (c : Core) → i < length cs → NonePasses q i cs
+      → q (get_or cs i c) ≡ true → find q cs ≡ Some (get_or cs i c)
+  found_some [] i c l none here = absurd (omega arith)
+  found_some (d ∷ cs) zero c l none here = ap (λ (b : Bool). if b then Some d else find q cs) here
+  found_some (d ∷ cs) (suc i) c l none here = ap (λ (b : Bool). if b then Some d else find q cs)
+      (none 0 c (omega arith))
+      ∙ found_some cs i c (omega arith) (λ k e m. none (suc k) e (omega arith)) here
+
+  -- one core more was looked at
+  pub none_more : (cs : List Core) (i : ℕ) (c : Core) → i < length cs → c ≡ get_or cs i c
+      → NonePasses q i cs → q c ≡ false → NonePasses q (i + 1) cs
+  none_more cs i c l is before here k d m = elim (cases_lt k i) [
+    | inl less ↦ before k d less
+    | inr more ↦ ap (λ (j : ℕ). q (get_or cs j d)) (same_place k i m more)
+        ∙ ap q (get_or_default cs i d c l ∙ sym is) ∙ here
+  ]
+    where
+      same_place : (k i : ℕ) → k < i + 1 → i ≤ k → k ≡ i
+      same_place k i m n = omega arith
+
+  -- this core passes, and none before it; or none does
+  pub this_first : (cores cs : List Core) (i : ℕ) (c : Core) (x : ℕ) → cs ≡ cores → i < length cs → c ≡ get_or cs i c
+      → NonePasses q i cs → q c ≡ true → x ≡ c.name → Some x ≡ option_map core_name (find q cores)
+  this_first cores cs i c x are l is before here named =
+      subst (λ (ds : List Core). Some x ≡ option_map core_name (find q ds)) are
+      (ap Some (named ∙ ap core_name is)
+      ∙ sym (ap (option_map core_name) (found_some cs i c l before (ap q (sym is) ∙ here))))
+
+  pub none_first : (cores cs : List Core) (i : ℕ) → cs ≡ cores → length cs ≤ i → NonePasses q i cs
+      → None ≡ option_map core_name (find q cores)
+  none_first cores cs i are le before = subst (λ (ds : List Core). None ≡ option_map core_name (find q ds)) are
+      (sym (ap (option_map core_name) (found_none cs (λ k d l. before k d (omega (arith, l, le))))))
 
 -- what is found is the same in rising lists that have the same of what passes
-rise_of : (xs : List ℕ) → IsStrictlyIncreasing xs → Rise xs
+pub rise_of : (xs : List ℕ) → IsStrictlyIncreasing xs → Rise xs
 rise_of [] up = tt
 rise_of (x ∷ xs) up = (
   λ c i. omega (arith, rises (x ∷ xs) 0 (suc i.0) up (omega arith) (omega (arith, i.1)), get_or_default xs i.0 0 c i.1, i.2),
   rise_of xs (rising-tail x xs up),
 )
 
-found_same : (p : ℕ → Bool) (xs ys : List ℕ) → Rise xs → Rise ys → ((c : ℕ) → p c ≡ true → Contains xs c → Contains ys c)
+pub found_same : (p : ℕ → Bool) (xs ys : List ℕ) → Rise xs → Rise ys → ((c : ℕ) → p c ≡ true → Contains xs c → Contains ys c)
     → ((c : ℕ) → p c ≡ true → Contains ys c → Contains xs c) → find p xs ≡ find p ys
 found_same p xs ys R T there back = go (find p xs) (find p ys) refl refl
   where
@@ -148,28 +178,12 @@ module _ (h : Held) (whole : IsWhole h) (went : HaveLeft (nodes_of h) h.links.de
           (ltb-true c (opening_of h).bound (and_parts (nat_lt c (opening_of h).bound) ((opening_of h).nodes c) e).0, e)
 
   holder_is : holder (opening_of h) (seen h) ≡ option_map core_name (find (is_holding h.links.departed) h.cores)
-  holder_is = searched ∙ ap (find holds) (sym whole.names) ∙ found_by_name h.links.departed holds h.cores same
-
-  nobody_holds : NobodyBefore h.links.departed (length h.cores) h.cores → None ≡ holder (opening_of h) (seen h)
-  nobody_holds none = sym (holder_is ∙ ap (option_map core_name) (found_none h.links.departed h.cores none))
-
-  this_holds : (i : ℕ) (c : Core) → i < length h.cores → NobodyBefore h.links.departed i h.cores
-      → is_holding h.links.departed (get_or h.cores i c) ≡ true
-      → Some (get_or h.cores i c).name ≡ holder (opening_of h) (seen h)
-  this_holds i c l none here =
-      sym (holder_is ∙ ap (option_map core_name) (found_some h.links.departed h.cores i c l none here))
+  holder_is = searched ∙ ap (find holds) (sym whole.names) ∙ found_by_name (is_holding h.links.departed) holds h.cores same
 
 -- one core more was looked at
 pub nobody_more : (w : List ℕ) (cs : List Core) (i : ℕ) (c : Core) → i < length cs → c ≡ get_or cs i c
     → NobodyBefore w i cs → is_holding w c ≡ false → NobodyBefore w (i + 1) cs
-nobody_more w cs i c l is before here k d m = elim (cases_lt k i) [
-  | inl less ↦ before k d less
-  | inr more ↦ ap (λ (j : ℕ). is_holding w (get_or cs j d)) (same_place k i m more)
-      ∙ ap (is_holding w) (get_or_default cs i d c l ∙ sym is) ∙ here
-]
-  where
-    same_place : (k i : ℕ) → k < i + 1 → i ≤ k → k ≡ i
-    same_place k i m n = omega arith
+nobody_more w cs i c l is before here = none_more (is_holding w) cs i c l is before here
 
 -- this core holds, and none before it
 pub this_core : (h : Held) (cs : List Core) (i : ℕ) (c : Core) (x : ℕ) → IsWhole h → HaveLeft (nodes_of h) h.links.departed
@@ -177,16 +191,11 @@ pub this_core : (h : Held) (cs : List Core) (i : ℕ) (c : Core) (x : ℕ) → I
     ≡ get_or cs i c → NobodyBefore h.links.departed i cs
     → is_holding h.links.departed c ≡ true → x ≡ c.name → Some x ≡ holder (opening_of h) (seen h)
 this_core h cs i c x whole went are l is before here named =
-    ap Some (named ∙ ap core_name here_is) ∙ this_holds h whole went i c (subst (λ (ds : List Core). i < length ds) are l)
-    (subst (λ (ds : List Core). NobodyBefore h.links.departed i ds) are before) (sym (ap (is_holding h.links.departed) here_is) ∙ here)
-  where
-    here_is : c ≡ get_or h.cores i c
-    here_is = is ∙ ap (λ (ds : List Core). get_or ds i c) are
+    this_first (is_holding h.links.departed) h.cores cs i c x are l is before here named ∙ sym (holder_is h whole went)
 
 -- no core holds
 pub no_core_holds : (h : Held) (cs : List Core) (i : ℕ) → IsWhole h → HaveLeft (nodes_of h) h.links.departed
     → cs ≡ h.cores → length cs ≤ i
     → NobodyBefore h.links.departed i cs → None ≡ holder (opening_of h) (seen h)
 no_core_holds h cs i whole went are le before =
-    nobody_holds h whole went (λ k d l. subst (λ (ds : List Core). is_holding h.links.departed (get_or ds k d) ≡ false) are
-    (before k d (omega (arith, l, le, ap (λ (ds : List Core). length ds) are))))
+    none_first (is_holding h.links.departed) h.cores cs i are le before ∙ sym (holder_is h whole went)

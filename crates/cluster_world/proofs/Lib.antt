@@ -31,6 +31,9 @@ pub mod Agreeing
 pub mod Locks
 pub mod Leftovers
 mod Running
+pub mod Settling
+mod Refused
+pub mod Finishing
 mod Verdicts
 mod OneEvent
 mod Winning

@@ -4,6 +4,7 @@ use Rattle.std.specs.List.{slice_get}
 use Rattle.std.specs.Prelude.{◌&&◌, is_none, is_ok, IsOk, Result, if◌then◌else◌}
 use Rattle.std.specs.declared.alloc.AllocError.{AllocError}
 use Rattle.std.proofs.lemmas.List.{append_assoc, append-nil, map-append}
+use Rattle.std.proofs.lemmas.List.Sums.{fold-append}
 use Rattle.protocol_model.specs.Event.{Answer as AnyAnswer}
 use Rattle.creations.specs.NodeNames.{NamedOpening}
 use Rattle.creations.specs.NamedWorld.{NamedWorld, NamedEvent, NamedRefusal, named_refusal, happens_named, named_answers, run_named}
@@ -14,33 +15,44 @@ use Rattle.cluster_world.specs.Held.{Held}
 use Rattle.world_events.specs.Events.{named_event}
 use Rattle.cluster_world.specs.Seen.{names_of, named}
 use Rattle.world_events.specs.declared.refusal.Refusal.{Refusal}
-use Rattle.cluster_world.specs.Playing.{Keeps, Played, RefusedWith, IsSoFar, Ran, events_of, accepts_all, answers_to_all}
+use Rattle.cluster_world.specs.Playing.{Keeps, Played, RefusedWith, WentThrough, IsSoFar, Ran, events_of, accepts_all, answers_to_all}
+
+-- events behind others
+pub answers_to_all-append : (o : NamedOpening) (w : NamedWorld) (es ds : List NamedEvent)
+    → answers_to_all o w (es ++ ds) ≡ answers_to_all o w es ++ answers_to_all o (run_named o w es) ds
+answers_to_all-append o w [] ds = refl
+answers_to_all-append o w (e ∷ es) ds = ap (λ (l : List AnyAnswer). named_answers o w e ++ l)
+    (answers_to_all-append o (happens_named o w e) es ds)
+    ∙ sym (append_assoc (named_answers o w e) (answers_to_all o (happens_named o w e) es)
+    (answers_to_all o (run_named o (happens_named o w e) es) ds))
+
+pub accepts_all-append : (o : NamedOpening) (w : NamedWorld) (es ds : List NamedEvent)
+    → accepts_all o w es ≡ true → accepts_all o (run_named o w es) ds ≡ true → accepts_all o w (es ++ ds) ≡ true
+accepts_all-append o w [] ds all more = more
+accepts_all-append o w (e ∷ es) ds all more = go (is_none (named_refusal o w e)) all
+    (λ h. accepts_all-append o (happens_named o w e) es ds h more)
+  where
+    go : (b : Bool) → (b && accepts_all o (happens_named o w e) es) ≡ true
+        → (accepts_all o (happens_named o w e) es ≡ true → accepts_all o (happens_named o w e) (es ++ ds) ≡ true)
+        → (b && accepts_all o (happens_named o w e) (es ++ ds)) ≡ true
+    go true h on = on h
+    go false h on = h
 
 -- one event more is one more that happens
 pub run-push : (o : NamedOpening) (w : NamedWorld) (es : List NamedEvent) (e : NamedEvent) → run_named o w (es ++ e ∷ [])
     ≡ happens_named o (run_named o w es) e
-run-push o w [] e = refl
-run-push o w (d ∷ es) e = run-push o (happens_named o w d) es e
+run-push o w es e = fold-append (happens_named o) w es (e ∷ [])
 
 pub answers-push : (o : NamedOpening) (w : NamedWorld) (es : List NamedEvent) (e : NamedEvent)
     → answers_to_all o w (es ++ e ∷ []) ≡ answers_to_all o w es ++ named_answers o (run_named o w es) e
-answers-push o w [] e = append-nil (named_answers o w e)
-answers-push o w (d ∷ es) e = ap (λ (l : List AnyAnswer). named_answers o w d ++ l) (answers-push o (happens_named o w d) es e)
-    ∙ sym (append_assoc (named_answers o w d) (answers_to_all o (happens_named o w d) es)
-    (named_answers o (run_named o (happens_named o w d) es) e))
+answers-push o w es e = answers_to_all-append o w es (e ∷ [])
+    ∙ ap (λ (l : List AnyAnswer). answers_to_all o w es ++ l) (append-nil (named_answers o (run_named o w es) e))
 
 -- and it was accepted, where all before were
 pub accepts_all-push : (o : NamedOpening) (w : NamedWorld) (es : List NamedEvent) (e : NamedEvent)
     → accepts_all o w es ≡ true → named_refusal o (run_named o w es) e ≡ None → accepts_all o w (es ++ e ∷ []) ≡ true
-accepts_all-push o w [] e all free = ap (λ (r : Option NamedRefusal). is_none r && true) free
-accepts_all-push o w (d ∷ es) e all free = go (is_none (named_refusal o w d)) all
-    (λ h. accepts_all-push o (happens_named o w d) es e h free)
-  where
-    go : (b : Bool) → (b && accepts_all o (happens_named o w d) es) ≡ true
-        → (accepts_all o (happens_named o w d) es ≡ true → accepts_all o (happens_named o w d) (es ++ e ∷ []) ≡ true)
-        → (b && accepts_all o (happens_named o w d) (es ++ e ∷ [])) ≡ true
-    go true h more = more h
-    go false h more = h
+accepts_all-push o w es e all free = accepts_all-append o w es (e ∷ []) all
+    (ap (λ (r : Option NamedRefusal). is_none r && true) free)
 
 -- the first k events and the next
 events-push : (es : List WorldEvent) (k : ℕ) (e : WorldEvent) → slice_get es k ≡ Some e → events_of (take (suc k) es)
@@ -135,3 +147,52 @@ ran_all es old new k given S all = subst (λ (i : ℕ). Ran es old new i given N
   answers = S.answers;
   stopped = all;
 })
+
+-- nothing was played
+pub went_nowhere : (h : Held) (given : List Answer) → WentThrough [] h h given given
+went_nowhere h given = record { accepted = refl; world = refl; answers = sym (append-nil (map answer_of given)) }
+
+-- what was played stands in another state that the protocol sees the same
+pub stands_still : (es : List WorldEvent) (old mid new : Held) (given now : List Answer) → WentThrough es old mid given now
+    → named new ≡ named mid → WentThrough es old new given now
+stands_still es old mid new given now W same =
+    record { accepted = W.accepted; world = same ∙ W.world; answers = W.answers }
+
+-- one event was played
+pub went_one : (e : WorldEvent) (old new : Held) (given now : List Answer) → Played e old new given now
+    → WentThrough (e ∷ []) old new given now
+went_one e old new given now P = record {
+  accepted = ap (λ (r : Option NamedRefusal). is_none r && true) P.accepted;
+  world = P.happens;
+  answers = P.answers ∙ ap (λ (l : List AnyAnswer). map answer_of given ++ l)
+      (sym (append-nil (named_answers (names_of old) (named old) (named_event e))));
+}
+
+-- and others behind those
+pub went_along : (es ds : List WorldEvent) (old mid new : Held) (given before now : List Answer)
+    → WentThrough es old mid given before → Keeps old mid → WentThrough ds mid new before now
+    → WentThrough (es ++ ds) old new given now
+went_along es ds old mid new given before now W K V = record {
+  accepted = ap (accepts_all o (named old)) joined
+      ∙ accepts_all-append o (named old) (events_of es) (events_of ds) W.accepted
+      (ap (λ (w : NamedWorld). accepts_all o w (events_of ds)) (sym W.world)
+      ∙ ap (λ (p : NamedOpening). accepts_all p (named mid) (events_of ds)) (sym K.names) ∙ V.accepted);
+  world = V.world ∙ ap (λ (p : NamedOpening). run_named p (named mid) (events_of ds)) K.names
+      ∙ ap (λ (w : NamedWorld). run_named o w (events_of ds)) W.world
+      ∙ sym (fold-append (happens_named o) (named old) (events_of es) (events_of ds)) ∙ ap (run_named o (named old)) (sym joined);
+  answers = V.answers
+      ∙ ap (λ (l : List AnyAnswer). l ++ answers_to_all (names_of mid) (named mid) (events_of ds)) W.answers
+      ∙ append_assoc (map answer_of given) (answers_to_all o (named old) (events_of es))
+      (answers_to_all (names_of mid) (named mid) (events_of ds))
+      ∙ ap (λ (l : List AnyAnswer). map answer_of given ++ (answers_to_all o (named old) (events_of es) ++ l))
+      (ap (λ (p : NamedOpening). answers_to_all p (named mid) (events_of ds)) K.names
+      ∙ ap (λ (w : NamedWorld). answers_to_all o w (events_of ds)) W.world)
+      ∙ ap (λ (l : List AnyAnswer). map answer_of given ++ l)
+      (sym (answers_to_all-append o (named old) (events_of es) (events_of ds)) ∙ ap (answers_to_all o (named old)) (sym joined));
+}
+  where
+    o : NamedOpening
+    o = names_of old
+
+    joined : events_of (es ++ ds) ≡ events_of es ++ events_of ds
+    joined = map-append named_event es ds

@@ -21,9 +21,9 @@ use Rattle.node_core.specs.Held.{Held as Core}
 use Rattle.cluster_world.specs.Cores.{core_of}
 use Rattle.cluster_world.specs.Steps.{IsAdmitted}
 use Rattle.cluster_world.specs.Held.{Held, nodes_of}
-use Rattle.cluster_world.specs.Playing.{Keeps, Played, RefusedWith, WaitsOn, events_of, accepts_all, answers_to_all}
+use Rattle.cluster_world.specs.Playing.{Keeps, Played, RefusedWith, WentThrough, WaitsOn, events_of, accepts_all, answers_to_all}
 use Rattle.world_events.specs.Refusals.{refusal_of, is_memory, out_of_memory}
-use Rattle.cluster_world.specs.Seats.{most_events, verdict_in, next_number, next_for, awaiting, until_answered, WentThrough, Waited, HasWaited, Called, SetsLock, IsUnplayed, Unanswered}
+use Rattle.cluster_world.specs.Seats.{most_events, verdict_in, next_number, next_for, awaiting, until_answered, Waited, HasWaited, Called, SetsLock, IsUnplayed, Unanswered}
 use Rattle.cluster_world.specs.Seen.{names_of, opening_of, seen, named, or_else, node_with}
 use Rattle.cluster_world.specs.Agreeing.{Agrees}
 use Rattle.world_events.proofs.Faults.{has_cause}
@@ -33,7 +33,7 @@ use Rattle.cluster_world.proofs.Locks.{locks_behind}
 use Rattle.cluster_world.proofs.Leftovers.{leaves_nothing}
 use Rattle.cluster_world.proofs.Verdicts.{verdict_in-append}
 use Rattle.cluster_world.proofs.Counting.{counts}
-use Rattle.cluster_world.proofs.Running.{run-push, answers-push, accepts_all-push}
+use Rattle.cluster_world.proofs.Running.{played_behind, went_nowhere, stands_still, went_one, went_along}
 
 -- what a call waits for, where that is e, by why it is refused
 module _ (o : NamedOpening) (a k left : ℕ) (w : NamedWorld) where
@@ -65,26 +65,13 @@ pub next_delivered : (h : Held) (a f t : ℕ) → WaitsOn (Some (f, t)) h
 next_delivered h a f t waits =
     sym (ap (λ (o : Option NamedEvent). elim o [ None ↦ NamedEvent.AtNode a AnyEvent.Retry | Some e ↦ e ]) waits)
 
--- what was played stands in another state that the protocol sees the same
-stands_still : (es : List WorldEvent) (old mid new : Held) (given : List Answer) → WentThrough es old mid given
-    → named new ≡ named mid → WentThrough es old new given
-stands_still es old mid new given W same =
-    record { accepted = W.accepted; world = same ∙ W.world; answers = W.answers }
-
--- nothing was played yet
-pub went_nowhere : (h : Held) → WentThrough [] h h []
-went_nowhere h = record { accepted = refl; world = refl; answers = refl }
-
 module _ (es : List WorldEvent) (old mid new : Held) (given now : List Answer) (e : WorldEvent)
-    (W : WentThrough es old mid given) (K : Keeps old mid) (P : Played e mid new [] now) where
+    (W : WentThrough es old mid [] given) (K : Keeps old mid) (P : Played e mid new [] now) where
   abbrev pub o : NamedOpening
   o = names_of old
 
   same : names_of mid ≡ o
   same = K.names
-
-  pushed : events_of (es ++ e ∷ []) ≡ events_of es ++ named_event e ∷ []
-  pushed = map-append named_event es (e ∷ [])
 
   -- it is accepted, makes this world, and answers so
   pub free : named_refusal o (named mid) (named_event e) ≡ None
@@ -97,19 +84,9 @@ module _ (es : List WorldEvent) (old mid new : Held) (given now : List Answer) (
   says = P.answers ∙ ap (λ (p : NamedOpening). named_answers p (named mid) (named_event e)) same
 
   -- one event more
-  pub went_on : WentThrough (es ++ e ∷ []) old new (given ++ now)
-  went_on = record {
-    accepted = ap (accepts_all o (named old)) pushed
-        ∙ accepts_all-push o (named old) (events_of es) (named_event e) W.accepted
-        (ap (λ (w : NamedWorld). named_refusal o w (named_event e)) (sym W.world) ∙ free);
-    world = makes ∙ ap (λ (w : NamedWorld). happens_named o w (named_event e)) W.world
-        ∙ sym (run-push o (named old) (events_of es) (named_event e)) ∙ ap (run_named o (named old)) (sym pushed);
-    answers = map-append answer_of given now
-        ∙ ap (λ (l : List AnyAnswer). l ++ map answer_of now) W.answers
-        ∙ ap (λ (l : List AnyAnswer). answers_to_all o (named old) (events_of es) ++ l) (says
-        ∙ ap (λ (w : NamedWorld). named_answers o w (named_event e)) W.world)
-        ∙ sym (answers-push o (named old) (events_of es) (named_event e)) ∙ ap (answers_to_all o (named old)) (sym pushed);
-  }
+  pub went_on : WentThrough (es ++ e ∷ []) old new [] (given ++ now)
+  went_on = went_along es (e ∷ []) old mid new [] given (given ++ now) W K
+      (went_one e mid new given (given ++ now) (played_behind e mid new given now P))
 
 -- call k of node a still waits, and these events were played for it, at most so many; however many are played at most, what
 -- is left is what waits for it now
@@ -117,7 +94,7 @@ pub record IsWaiting (a k : ℕ) (old mid : Held) (i : ℕ) : Type 0 where
   pub kept : Keeps old mid
   pub events : List WorldEvent
   pub given : List Answer
-  pub played : WentThrough events old mid given
+  pub played : WentThrough events old mid [] given
   pub rest : (left : ℕ) → awaiting (names_of old) a k (i + left) (named old)
       ≡ events_of events ++ awaiting (names_of old) a k left (named mid)
   pub silent : verdict_in a k (map answer_of given) ≡ None
@@ -127,7 +104,7 @@ begins a k h = record {
   kept = record { names = refl; cluster = refl };
   events = [];
   given = [];
-  played = went_nowhere h;
+  played = went_nowhere h [];
   rest = λ left. ap (λ (n : ℕ). awaiting (names_of h) a k n (named h)) (zero-add left);
   silent = refl;
 }
@@ -183,7 +160,7 @@ module _ (a k : ℕ) (old mid new : Held) (i : ℕ) (e : WorldEvent) (within : i
   stops r refused kept same = record {
     events = I.events;
     given = I.given;
-    played = stands_still I.events old mid new I.given I.played same;
+    played = stands_still I.events old mid new [] I.given I.played same;
     are = sym (ap (λ (n : ℕ). awaiting (names_of old) a k n (named old)) (sym most_is) ∙ in_all left
         ∙ ap (λ (l : List NamedEvent). events_of I.events ++ l) nothing
         ∙ append-nil (events_of I.events));
@@ -210,7 +187,7 @@ module _ (a k : ℕ) (old mid new : Held) (i : ℕ) (e : WorldEvent) (within : i
     record {
       events = I.events;
       given = I.given;
-      played = stands_still I.events old mid new I.given I.played still;
+      played = stands_still I.events old mid new [] I.given I.played still;
       are = as_many a k i old mid I;
       answered = I.silent;
     },
@@ -227,7 +204,7 @@ module _ (a k : ℕ) (old mid new : Held) (i : ℕ) (e : WorldEvent) (within : i
       go false q = stops r refused q same
 
   module _ (now : List Answer) (P : Played e mid new [] now) where
-    went : WentThrough (I.events ++ e ∷ []) old new (I.given ++ now)
+    went : WentThrough (I.events ++ e ∷ []) old new [] (I.given ++ now)
     went = went_on I.events old mid new I.given now e I.played I.kept P
 
     -- what is left behind the next event, by its verdict
@@ -282,7 +259,7 @@ module _ (a k : ℕ) (old mid new : Held) (i : ℕ) (e : WorldEvent) (within : i
 
 -- an event, and then others
 went_behind : (e : WorldEvent) (es : List WorldEvent) (old mid new : Held) (now given : List Answer) → Keeps old mid
-    → Played e old mid [] now → WentThrough es mid new given → WentThrough (e ∷ es) old new (now ++ given)
+    → Played e old mid [] now → WentThrough es mid new [] given → WentThrough (e ∷ es) old new [] (now ++ given)
 went_behind e es old mid new now given K P W = record {
   accepted = ap (λ (r : Option NamedRefusal). is_none r && accepts_all o (happens_named o (named old) (named_event e))
       (events_of es)) P.accepted
@@ -315,7 +292,7 @@ module _ (a : ℕ) (c : Call) (old mid : Held) (now : List Answer) (P : Played (
 
   -- a call whose events were these
   called : (new : Held) (es : List WorldEvent) (given : List Answer) (most : ℕ) (v : Option Bool) → Keeps old new
-      → WentThrough es old new given
+      → WentThrough es old new [] given
       → events_of es ≡ until_answered (names_of old) a k most (named old) (named_event calls)
       → verdict_in a k (map answer_of given) ≡ v → Called a c most old new v
   called new es given most v K W are answered = record {
@@ -353,7 +330,7 @@ module _ (a : ℕ) (c : Call) (old mid : Held) (now : List Answer) (P : Played (
       → Called a c most_events old mid (Some granted)
   answered_at_once granted q =
       called mid (calls ∷ []) now most_events (Some granted) begun
-      (went_on [] old old mid [] now calls (went_nowhere old) (record { names = refl; cluster = refl }) P)
+      (went_on [] old old mid [] now calls (went_nowhere old []) (record { names = refl; cluster = refl }) P)
       (sym (until most_events (Some granted) q)) q
 
   -- or it waits

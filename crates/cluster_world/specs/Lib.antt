@@ -26,5 +26,6 @@ pub mod Agreeing
 pub mod Locks
 pub mod Leftovers
 pub mod Settling
+pub mod Finishing
 pub mod Counting
 pub mod Seats

@@ -45,6 +45,12 @@ abbrev pub answers_to_all : NamedOpening → NamedWorld → List NamedEvent → 
 answers_to_all o w [] = []
 answers_to_all o w (e ∷ es) = named_answers o w e ++ answers_to_all o (happens_named o w e) es
 
+-- these events were accepted and played, with their answers behind those given before
+pub record WentThrough (es : List WorldEvent) (old new : Held) (given now : List Answer) : Type 0 where
+  pub accepted : accepts_all (names_of old) (named old) (events_of es) ≡ true
+  pub world : named new ≡ run_named (names_of old) (named old) (events_of es)
+  pub answers : map answer_of now ≡ map answer_of given ++ answers_to_all (names_of old) (named old) (events_of es)
+
 -- why a list of events stopped there, where the events before had made this world
 abbrev pub IsStop : List WorldEvent → ℕ → NamedOpening → NamedWorld → Option Refusal → Type 0
 IsStop es k o w None = k ≡ length es

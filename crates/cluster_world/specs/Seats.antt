@@ -5,7 +5,7 @@ use Rattle.registry_model.specs.Call.{Reply as AnyReply, True, False}
 use Rattle.protocol_model.specs.Event.{Event as AnyEvent, Answer as AnyAnswer}
 use Rattle.protocol_model.specs.World.{World}
 use Rattle.creations.specs.NodeNames.{NamedOpening}
-use Rattle.creations.specs.NamedWorld.{NamedWorld, NamedEvent, named_refusal, happens_named, named_answers, run_named}
+use Rattle.creations.specs.NamedWorld.{NamedWorld, NamedEvent, named_refusal, happens_named, named_answers}
 use Rattle.creations.specs.NamedScript.{next_named}
 use Rattle.transaction.specs.Calls.{is_named}
 use Rattle.transaction.specs.declared.reply.LockReply.{LockReply}
@@ -24,7 +24,7 @@ use Rattle.world_events.specs.declared.refusal.Refusal.{Refusal}
 use Rattle.world_events.specs.Events.{named_event}
 use Rattle.world_events.specs.Refusals.{is_memory, out_of_memory}
 use Rattle.cluster_world.specs.Seen.{names_of, seen, named}
-use Rattle.cluster_world.specs.Playing.{Played, RefusedWith, events_of, accepts_all, answers_to_all}
+use Rattle.cluster_world.specs.Playing.{Played, RefusedWith, WentThrough, events_of}
 use Rattle.cluster_world.specs.Agreeing.{Agrees}
 use Rattle.cluster_world.specs.Locks.{LocksBehind}
 use Rattle.cluster_world.specs.Leftovers.{LeavesNothing}
@@ -85,18 +85,12 @@ abbrev pub until_answered : NamedOpening → ℕ → ℕ → ℕ → NamedWorld 
 until_answered o a k most w e =
     e ∷ (if is_some (verdict_in a k (named_answers o w e)) then [] else awaiting o a k most (happens_named o w e))
 
--- these events were accepted and played, with these answers
-pub record WentThrough (es : List WorldEvent) (old new : Held) (given : List Answer) : Type 0 where
-  pub accepted : accepts_all (names_of old) (named old) (events_of es) ≡ true
-  pub world : named new ≡ run_named (names_of old) (named old) (events_of es)
-  pub answers : map answer_of given ≡ answers_to_all (names_of old) (named old) (events_of es)
-
 -- these events, at most so many, were played while call k of node a wasn't answered, and this is what it was answered
 -- then, if it was
 pub record Waited (a k most : ℕ) (old new : Held) (verdict : Option Bool) : Type 0 where
   pub events : List WorldEvent
   pub given : List Answer
-  pub played : WentThrough events old new given
+  pub played : WentThrough events old new [] given
   pub are : events_of events ≡ awaiting (names_of old) a k most (named old)
   pub answered : verdict_in a k (map answer_of given) ≡ verdict
 
@@ -114,7 +108,7 @@ HasWaited a k old new (Err NoMemory) = ⊥
 pub record Called (a : ℕ) (c : Call) (most : ℕ) (old new : Held) (verdict : Option Bool) : Type 0 where
   pub events : List WorldEvent
   pub given : List Answer
-  pub played : WentThrough events old new given
+  pub played : WentThrough events old new [] given
   pub are : events_of events ≡ until_answered (names_of old) a (next_number a (seen old)) most (named old)
       (NamedEvent.AtNode a (AnyEvent.Calling (call_of c)))
   pub answered : verdict_in a (next_number a (seen old)) (map answer_of given) ≡ verdict

@@ -6,12 +6,14 @@ pub mod laws;
 mod mail;
 mod run_end;
 mod seat;
+mod settle;
 mod start;
 mod turns;
 mod world;
 
 pub use run_end::RunEnd;
 pub use seat::{SeatFault, WorldSeat};
+pub use settle::Interrupted;
 pub use world::World;
 pub use world_events::{
     Answer, Call, CoreEvent, Event, Letter, Look, NameCall, NameList, NodeCore, Nodes, Notice,

@@ -335,7 +335,7 @@ impl<N: Names<Memory = Global>> World<N> {
 
     /// The node at this place reads the oldest letter on the link from a name, which this sender has sent, and which is taken off it.
     /// Where memory is refused, nothing has happened.
-    fn read(
+    pub(crate) fn read(
         &mut self,
         place: usize,
         sender: &Node,
@@ -472,7 +472,7 @@ impl<N: Names<Memory = Global>> World<N> {
     }
 
     /// The letter that is delivered next: the place of the node that is to read it, the node that sent it, and the one that reads it.
-    fn next_letter(&self) -> Option<(usize, Node, Node)>
+    pub(crate) fn next_letter(&self) -> Option<(usize, Node, Node)>
         ensures { MatchOption result (WaitsOn None self.now) (λ letter. IsNextLetter letter.0 letter.1 letter.2 self.now) }
     {
         let nodes = self.links.nodes();
@@ -500,7 +500,11 @@ impl<N: Names<Memory = Global>> World<N> {
     }
 
     /// Plays one event, and puts its answers behind those given before. Room for them is had before the event is played.
-    fn play_into(&mut self, event: &WorldEvent, answers: &mut Vec<Answer>) -> Result<(), Refusal>
+    pub(crate) fn play_into(
+        &mut self,
+        event: &WorldEvent,
+        answers: &mut Vec<Answer>,
+    ) -> Result<(), Refusal>
         ensures kept { Keeps self.old self.new }
         ensures ok { OnOk result (Played event.now self.old self.new answers.old.items answers.new.items) }
         ensures refused { IfErr result (λ refusal. RefusedWith refusal event.now self.old) }

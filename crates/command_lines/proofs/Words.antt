@@ -1,13 +1,12 @@
 -- No line has seven words.
 use Rattle.std.proofs.Common.{List, ℕ, [], ◌∷◌, ◌<◌, ◌≤◌, ◌⊎◌, arith, length, map, refl, take, Result, Err, inl, inr}
 use denote.Bor.{Bor}
-use Rattle.protocol_model.specs.NamedEvents.{NamedLine}
 use Rattle.command_lines.specs.declared.faults.LineFault.{LineFault}
 use Rattle.command_lines.specs.declared.faults.LineFault.TheVariants.{BadLine}
-use Rattle.command_lines.specs.Grammar.{WordsAsk, WordsNameNodes}
+use Rattle.command_lines.specs.Grammar.{ScriptLine, WordsAsk, WordsNameNodes}
 
 -- so more than seven ask for what the first seven do
-pub first_words_ask : (words : List (List ℕ)) (r : Result NamedLine LineFault) → WordsAsk (take 7 words) r → WordsAsk words r
+pub first_words_ask : (words : List (List ℕ)) (r : Result ScriptLine LineFault) → WordsAsk (take 7 words) r → WordsAsk words r
 first_words_ask [] r h = h
 first_words_ask (a ∷ []) r h = h
 first_words_ask (a ∷ b ∷ []) r h = h

@@ -1,7 +1,7 @@
 -- What a line that isn't empty asks for.
 use Rattle.std.specs.Prelude.{ℕ, Bool, ◌≡◌, nat_lt, List, length, if◌then◌else◌, Option, Some, None, Result, Ok, Err}
 use Rattle.std.specs.List.{list_all}
-use Rattle.protocol_model.specs.NamedEvents.{NamedLine, NamedEvent, Play, Settle, TableAt, MembersAt}
+use Rattle.protocol_model.specs.NamedEvents.{NamedEvent, Play, Settle, TableAt, MembersAt}
 use Rattle.term.specs.Nodes.{text_in}
 use Rattle.world_events.specs.Events.{own_event_of, named_event}
 use Rattle.command_lines.specs.declared.faults.LineFault.{LineFault}
@@ -9,7 +9,7 @@ use Rattle.command_lines.specs.declared.faults.LineFault.TheVariants.{LineTooLon
 use Rattle.command_lines.specs.declared.grammar.Task.{Task}
 use Rattle.text_lines.specs.Lines.{longest_line}
 use Rattle.text_lines.specs.Words.{words}
-use Rattle.command_lines.specs.Grammar.{WordsAsk, WordsNameNodes}
+use Rattle.command_lines.specs.Grammar.{ScriptLine, Scripted, Finish, WordsAsk, WordsNameNodes}
 
 -- each byte is below 128
 abbrev pub is_ascii : List ℕ → Bool
@@ -20,12 +20,12 @@ abbrev pub unread : List ℕ → Option LineFault
 unread line = if nat_lt longest_line (length line) then Some LineTooLong else (if is_ascii line then None else Some NotAscii)
 
 -- what a line asks for that can be read, or why it is refused
-abbrev pub AsksUnless : Option LineFault → List ℕ → Result NamedLine LineFault → Type 0
+abbrev pub AsksUnless : Option LineFault → List ℕ → Result ScriptLine LineFault → Type 0
 AsksUnless (Some f) line r = r ≡ Err f
 AsksUnless None line r = WordsAsk (words line) r
 
 -- what a line asks for, or why it is refused
-abbrev pub LineAsks : List ℕ → Result NamedLine LineFault → Type 0
+abbrev pub LineAsks : List ℕ → Result ScriptLine LineFault → Type 0
 LineAsks line r = AsksUnless (unread line) line r
 
 -- a line that can be read asks for a lock call that names nodes
@@ -33,14 +33,15 @@ abbrev pub LineNamesNodes : List ℕ → Type 0
 LineNamesNodes line = (unread line ≡ None) × WordsNameNodes (words line)
 
 -- a task of the program, as a line of a script
-abbrev pub line_in : Task → NamedLine
-line_in (Task.Play e) = Play (named_event e)
-line_in (Task.At x e) = Play (NamedEvent.At (text_in x) (own_event_of e))
-line_in Task.Settle = Settle
-line_in (Task.Table x) = TableAt (text_in x)
-line_in (Task.Members x) = MembersAt (text_in x)
+abbrev pub line_in : Task → ScriptLine
+line_in (Task.Play e) = Scripted (Play (named_event e))
+line_in (Task.At x e) = Scripted (Play (NamedEvent.At (text_in x) (own_event_of e)))
+line_in Task.Settle = Scripted Settle
+line_in Task.Finish = Finish
+line_in (Task.Table x) = Scripted (TableAt (text_in x))
+line_in (Task.Members x) = Scripted (MembersAt (text_in x))
 
 -- what was read, as what a line asks for
-abbrev pub asked_by : Result Task LineFault → Result NamedLine LineFault
+abbrev pub asked_by : Result Task LineFault → Result ScriptLine LineFault
 asked_by (Ok t) = Ok (line_in t)
 asked_by (Err f) = Err f

@@ -65,9 +65,14 @@ RefusedAs Requester text f = RefusesText text f
 RefusedAs Nodes text f = RefusesTarget text f
 RefusedAs Retries text f = ⊥
 
+-- what a line of a script asks for: what a line of the protocol's scripts does, or that the world is finished
+pub data ScriptLine : Type 0 where
+  Scripted : (line : NamedLine) → ScriptLine
+  Finish : ScriptLine
+
 -- what is asked for, by the values of texts of these kinds
 abbrev pub Asks : List Kind → Type 0
-Asks [] = NamedLine
+Asks [] = ScriptLine
 Asks (k ∷ ks) = Value k → Asks ks
 
 -- a line of the grammar
@@ -81,19 +86,19 @@ abbrev pub row : List ℕ → (texts : List Kind) → Asks texts → Row
 row word texts asks = record { word = word; texts = texts; asks = asks }
 
 -- an event at a node
-abbrev pub at_node : ℕ → Event → NamedLine
-at_node n e = Play (AtNode n e)
+abbrev pub at_node : ℕ → Event → ScriptLine
+at_node n e = Scripted (Play (AtNode n e))
 
 -- a call at a node
-abbrev pub call_at : ℕ → Call → NamedLine
+abbrev pub call_at : ℕ → Call → ScriptLine
 call_at n c = at_node n (Calling c)
 
 -- an event at the present node of a name
-abbrev pub at_name : ℕ → Event → NamedLine
-at_name n e = Play (At (text_in n) e)
+abbrev pub at_name : ℕ → Event → ScriptLine
+at_name n e = Scripted (Play (At (text_in n) e))
 
 -- a call there
-abbrev pub call_to : ℕ → Call → NamedLine
+abbrev pub call_to : ℕ → Call → ScriptLine
 call_to n c = at_name n (Calling c)
 
 -- a name for a process, under this rule
@@ -117,17 +122,18 @@ grammar =
     (λ p r q t n. call_at p.node (SetLock p r q t n))
     ∷ row (codes "del_lock") (Pid ∷ Resource ∷ Requester ∷ Nodes ∷ []) (λ p r q t. call_at p.node (DelLock p r q t))
     ∷ row (codes "join") (Node ∷ Contact ∷ []) (λ n m. call_to n (JoinBy m))
-    ∷ row (codes "deliver") (Node ∷ Node ∷ []) (λ f t. Play (Deliver (text_in f) (text_in t)))
+    ∷ row (codes "deliver") (Node ∷ Node ∷ []) (λ f t. Scripted (Play (Deliver (text_in f) (text_in t))))
     ∷ row (codes "retry") (Node ∷ []) (λ n. at_name n Retry)
     ∷ row (codes "leave") (Node ∷ []) (λ n. at_name n Leave)
-    ∷ row (codes "restart") (Node ∷ []) (λ n. Play (Restart (text_in n)))
-    ∷ row (codes "settle") [] Settle
-    ∷ row (codes "members") (Node ∷ []) (λ n. MembersAt (text_in n))
-    ∷ row (codes "table") (Node ∷ []) (λ n. TableAt (text_in n))
+    ∷ row (codes "restart") (Node ∷ []) (λ n. Scripted (Play (Restart (text_in n))))
+    ∷ row (codes "settle") [] (Scripted Settle)
+    ∷ row (codes "finish") [] Finish
+    ∷ row (codes "members") (Node ∷ []) (λ n. Scripted (MembersAt (text_in n)))
+    ∷ row (codes "table") (Node ∷ []) (λ n. Scripted (TableAt (text_in n)))
     ∷ []
 
 -- texts of these kinds spell values by which this is asked for
-abbrev pub AllSpelled : (kinds : List Kind) → Asks kinds → List (List ℕ) → Result NamedLine LineFault → Type 0
+abbrev pub AllSpelled : (kinds : List Kind) → Asks kinds → List (List ℕ) → Result ScriptLine LineFault → Type 0
 AllSpelled [] line [] r = r ≡ Ok line
 AllSpelled (k ∷ kinds) asks (text ∷ texts) r = (v : Value k) × Spells k text v × AllSpelled kinds (asks v) texts r
 AllSpelled _ _ _ r = ⊥
@@ -139,7 +145,7 @@ FirstRefused (k ∷ kinds) (text ∷ texts) f =
 FirstRefused _ _ f = ⊥
 
 -- what texts of these kinds ask for: they are read from left to right, and the first fault counts
-abbrev pub TextsAsk : (kinds : List Kind) → Asks kinds → List (List ℕ) → Result NamedLine LineFault → Type 0
+abbrev pub TextsAsk : (kinds : List Kind) → Asks kinds → List (List ℕ) → Result ScriptLine LineFault → Type 0
 TextsAsk kinds asks texts r =
     AllSpelled kinds asks texts r ⊎ ((f : TextFault) × FirstRefused kinds texts f × (r ≡ Err (Text f)))
 
@@ -160,14 +166,14 @@ abbrev pub row_of : List ℕ → List (List ℕ) → List Row → Option Row
 row_of word texts rows = find (λ row. fits row.texts texts && bytes_eq word row.word) rows
 
 -- what texts ask for behind the word of this line: retries that are none make a bad line, whatever the other texts are
-abbrev pub AsksBy : Option Row → List (List ℕ) → Result NamedLine LineFault → Type 0
+abbrev pub AsksBy : Option Row → List (List ℕ) → Result ScriptLine LineFault → Type 0
 AsksBy None texts r = r ≡ Err BadLine
 AsksBy (Some row) texts r =
     (HasRetries row.texts texts × TextsAsk row.texts row.asks texts r)
     ⊎ ((HasRetries row.texts texts → ⊥) × (r ≡ Err BadLine))
 
 -- what words ask for: no such line, or the wrong number of texts, is a bad line
-abbrev pub WordsAsk : List (List ℕ) → Result NamedLine LineFault → Type 0
+abbrev pub WordsAsk : List (List ℕ) → Result ScriptLine LineFault → Type 0
 WordsAsk [] r = r ≡ Err BadLine
 WordsAsk (word ∷ texts) r = AsksBy (row_of word texts grammar) texts r
 

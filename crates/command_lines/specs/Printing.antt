@@ -130,6 +130,7 @@ error_line word = ended (codes "error " ++ word)
 pub data Shown : Type 0 where
   Shows : (output : NamedOutput) → Shown
   Refuses : (fault : LineFault) → Shown  -- the line was not played
+  Finished : Shown  -- nothing waits in the world but lock calls
 
 -- its bytes
 abbrev pub output_line : NamedOutput → List ℕ
@@ -145,6 +146,7 @@ output_line (MembersAre members) = ended (codes "members" ++ flat_map (λ a. 32 
 abbrev pub shown_line : Shown → List ℕ
 shown_line (Shows o) = output_line o
 shown_line (Refuses f) = error_line (word_of f)
+shown_line Finished = ended (codes "finished")
 
 -- the lines of answers
 abbrev pub answers_text : List Answer → List ℕ
@@ -163,3 +165,4 @@ is_fine_output _ = true
 abbrev pub is_fine : Shown → Bool
 is_fine (Shows o) = is_fine_output o
 is_fine (Refuses f) = false
+is_fine Finished = true

@@ -31,6 +31,8 @@ pub enum Task {
     At(NodeName, Event),
     /// Letters are delivered until none waits.
     Settle,
+    /// The same, and refused registrars are retried until none is left.
+    Finish,
     /// The table of the present node of this name is shown.
     Table(NodeName),
     /// The members of the present node of this name are shown.
@@ -169,6 +171,7 @@ fn bare(word: &str) -> Result<Task, LineFault>
 {
     match word {
         "settle" => Ok(Task::Settle),
+        "finish" => Ok(Task::Finish),
         _ => Err(LineFault::BadLine),
     }
 }

@@ -2,14 +2,14 @@
 use Rattle.std.proofs.Common.{ℕ, Bool, true, false, ◌≡◌, ◌||◌, List, [], ◌∷◌, codes, bytes_eq, Result, Ok, Err, refl, subst, inl, inr}
 use Rattle.std.proofs.lemmas.Slice.Eq.{bytes_eq-Decides}
 use Rattle.protocol_model.specs.Event.{Calling}
-use Rattle.protocol_model.specs.NamedEvents.{NamedLine as Line, Play, AtNode}
+use Rattle.protocol_model.specs.NamedEvents.{Play, AtNode}
 use Rattle.command_lines.specs.declared.faults.LineFault.{LineFault}
-use Rattle.command_lines.specs.Grammar.{WordsAsk}
+use Rattle.command_lines.specs.Grammar.{ScriptLine as Line, Scripted, WordsAsk}
 use Rattle.console.specs.Commands.{is_lock_word}
 
 -- it is a call at some node
 abbrev pub is_call : Line → Bool
-is_call (Play (AtNode n (Calling call))) = true
+is_call (Scripted (Play (AtNode n (Calling call)))) = true
 is_call _ = false
 
 -- the line, not refused

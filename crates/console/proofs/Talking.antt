@@ -12,7 +12,7 @@ use Rattle.text_lines.specs.Lines.{LosesLines, LosesInto, LosesWithinLine, HasNo
 use Rattle.text_lines.specs.Writing.{AppendsPart}
 use Rattle.text_lines.proofs.Known.{LosesLines-nil, LosesLines-trans, LosesLines-more, LosesInto-whole, LosesInto-behind, MayEndIn-none, count_of_all-append}
 use Rattle.text_lines.proofs.Written.{AppendsPart-behind}
-use Rattle.console.specs.Consoles.{Answering, AnswersLine, AnswersAll, GoesTooFar, ServesSome, ServesSoFar, Talk, TalkStops, TalksUntil, Tells, TellStops}
+use Rattle.console.specs.Consoles.{Answering, AnswersLine, AnswersAll, GoesTooFar, ServesSome, ServesSoFar, Stands, Talk, TalkStops, TalksUntil, Tells, TellStops}
 use Rattle.console.specs.declared.ends.ConsoleEnd.{ConsoleEnd}
 use Rattle.console.specs.declared.ends.ConsoleEnd.TheVariants as by
 use Rattle.console.proofs.Heeding.{AnswersAll-push}
@@ -42,9 +42,9 @@ too_far a b ls most left t e g = (
   ],
 )
 
-module _ {S : Type 0} (answers : Answering S) (stays : Bool) (most : ℕ) where
+module _ {S : Type 0} (answers : Answering S) (stands : Stands S) (stays : Bool) (most : ℕ) where
   -- no line was read yet
-  pub ServesSoFar-start : (input old : Option (List ℕ)) (s : Talk S) → ServesSoFar answers stays most input input old old s s most
+  pub ServesSoFar-start : (input old : Option (List ℕ)) (s : Talk S) → ServesSoFar answers stands stays most input input old old s s most
   ServesSoFar-start input old s = record {
     taken = [];
     texts = [];
@@ -56,7 +56,7 @@ module _ {S : Type 0} (answers : Answering S) (stays : Bool) (most : ℕ) where
 
   -- what was written stays
   pub ServesSoFar-kept : (input mid old new same : Option (List ℕ)) (s t : Talk S) (left : ℕ)
-      → ServesSoFar answers stays most input mid old new s t left → Keeps new same → ServesSoFar answers stays most input mid old same s t left
+      → ServesSoFar answers stands stays most input mid old new s t left → Keeps new same → ServesSoFar answers stands stays most input mid old same s t left
   ServesSoFar-kept input mid old new same s t left P k = record {
     taken = P.taken;
     texts = P.texts;
@@ -66,11 +66,11 @@ module _ {S : Type 0} (answers : Answering S) (stays : Bool) (most : ℕ) where
     wrote = Appends-kept old new same (concat P.texts) P.wrote k;
   }
 
-  module _ (input mid old new : Option (List ℕ)) (s t : Talk S) (left : ℕ) (P : ServesSoFar answers stays most input mid old new s t left)
+  module _ (input mid old new : Option (List ℕ)) (s t : Talk S) (left : ℕ) (P : ServesSoFar answers stands stays most input mid old new s t left)
       (rest : Option (List ℕ)) where
     -- a part of the next line was read, and all answers are written, or a part of them
     module _ (part : List ℕ) where
-      abbrev so_far : LosesInto mid rest [] part → ServesSome answers stays Appends input rest old new s t None
+      abbrev so_far : LosesInto mid rest [] part → ServesSome answers stands stays Appends input rest old new s t None
       so_far l = record {
         taken = P.taken;
         part = part;
@@ -81,7 +81,7 @@ module _ {S : Type 0} (answers : Answering S) (stays : Bool) (most : ℕ) where
         wrote = P.wrote;
       }
 
-      abbrev some_so_far : LosesInto mid rest [] part → ServesSome answers stays AppendsPart input rest old new s t None
+      abbrev some_so_far : LosesInto mid rest [] part → ServesSome answers stands stays AppendsPart input rest old new s t None
       some_so_far l = record {
         taken = P.taken;
         part = part;
@@ -93,7 +93,7 @@ module _ {S : Type 0} (answers : Answering S) (stays : Bool) (most : ℕ) where
       }
 
     -- the next line isn't read
-    pub TalkStops-reading : (f : StreamFault) → StopsAtLine mid rest (min left most_lines) f → TalkStops answers stays most input rest old new s t f
+    pub TalkStops-reading : (f : StreamFault) → StopsAtLine mid rest (min left most_lines) f → TalkStops answers stands stays most input rest old new s t f
     TalkStops-reading Read g = (so_far g.0 (mid, LosesLines-nil mid, g.1), g.2)
     TalkStops-reading TooManyLines g = (
       so_far g.0 (mid, LosesLines-nil mid, g.1),
@@ -104,7 +104,7 @@ module _ {S : Type 0} (answers : Answering S) (stays : Bool) (most : ℕ) where
     TalkStops-reading Memory g = (None, some_so_far g.0 (mid, LosesLines-nil mid, g.1), g.2)
 
     -- there is no further line
-    pub TalksUntil-input : LosesLines mid rest [] → HasNoLine rest → TalksUntil answers stays most input rest old new s t by.Input
+    pub TalksUntil-input : LosesLines mid rest [] → HasNoLine rest → TalksUntil answers stands stays most input rest old new s t by.Input
     TalksUntil-input l none = (
       record {
         taken = P.taken;
@@ -129,9 +129,9 @@ module _ {S : Type 0} (answers : Answering S) (stays : Bool) (most : ℕ) where
       counts more e = omega (arith, P.counted, e, count_of_all-append P.taken (line ∷ []))
 
       -- it was answered
-      module _ (text : List ℕ) (u : Talk S) (ended : Option ConsoleEnd) (a : AnswersLine answers stays line t text u ended) where
-        all : AnswersAll answers stays (P.taken ++ line ∷ []) s (P.texts ++ text ∷ []) u ended
-        all = AnswersAll-push answers stays P.taken s P.texts t line text u ended P.answered a
+      module _ (text : List ℕ) (u : Talk S) (ended : Option ConsoleEnd) (a : AnswersLine answers stands stays line t text u ended) where
+        all : AnswersAll answers stands stays (P.taken ++ line ∷ []) s (P.texts ++ text ∷ []) u ended
+        all = AnswersAll-push answers stands stays P.taken s P.texts t line text u ended P.answered a
 
         module _ (told : Option (List ℕ)) where
           wholly : Appends new told text → Appends old told (concat (P.texts ++ text ∷ []))
@@ -142,7 +142,7 @@ module _ {S : Type 0} (answers : Answering S) (stays : Bool) (most : ℕ) where
           partly w = subst (λ (x : List ℕ). AppendsPart old told x) (sym (concat-push P.texts text))
               (AppendsPart-behind old new told (concat P.texts) text P.wrote w)
 
-          abbrev cut : AppendsPart new told text → ServesSome answers stays AppendsPart input rest old told s u ended
+          abbrev cut : AppendsPart new told text → ServesSome answers stands stays AppendsPart input rest old told s u ended
           cut w = record {
             taken = P.taken ++ line ∷ [];
             part = [];
@@ -155,7 +155,7 @@ module _ {S : Type 0} (answers : Answering S) (stays : Bool) (most : ℕ) where
       module _ (told : Option (List ℕ)) (u : Talk S) where
         -- it doesn't end the console
         pub ServesSoFar-next : (more : ℕ) → left ≡ more + count_of line → (ended : Option ConsoleEnd) → ended ≡ None
-            → Tells answers stays line new told t u ended → ServesSoFar answers stays most input rest old told s u more
+            → Tells answers stands stays line new told t u ended → ServesSoFar answers stands stays most input rest old told s u more
         ServesSoFar-next more e (Some how) q w = absurd (differ q)
           where
             differ : Some how ≡ None → ⊥
@@ -171,7 +171,7 @@ module _ {S : Type 0} (answers : Answering S) (stays : Bool) (most : ℕ) where
 
         -- it does
         pub TalksUntil-line : (more : ℕ) → left ≡ more + count_of line → (ended : Option ConsoleEnd) (how : ConsoleEnd) → ended ≡ Some how
-            → Tells answers stays line new told t u ended → TalksUntil answers stays most input rest old told s u how
+            → Tells answers stands stays line new told t u ended → TalksUntil answers stands stays most input rest old told s u how
         TalksUntil-line more e None how q w = absurd (differ q)
           where
             differ : None ≡ Some how → ⊥
@@ -194,21 +194,21 @@ module _ {S : Type 0} (answers : Answering S) (stays : Bool) (most : ℕ) where
             some z = cc
 
         -- its answer isn't written, or not wholly
-        pub TalkStops-telling : (f : StreamFault) → LosesWithinLine mid rest → TellStops answers stays line new told t u f
-            → TalkStops answers stays most input rest old told s u f
+        pub TalkStops-telling : (f : StreamFault) → LosesWithinLine mid rest → TellStops answers stands stays line new told t u f
+            → TalkStops answers stands stays most input rest old told s u f
         TalkStops-telling f b w = elim w [
           | inl x ↦ elim x.fault_is [
-            | inl e ↦ subst (λ (g : StreamFault). TalkStops answers stays most input rest old told s u g) (sym e)
+            | inl e ↦ subst (λ (g : StreamFault). TalkStops answers stands stays most input rest old told s u g) (sym e)
                 (x.ended, cut x.text u x.ended x.answered told x.wrote, MayEndIn-none Write)
-            | inr e ↦ subst (λ (g : StreamFault). TalkStops answers stays most input rest old told s u g) (sym e)
+            | inr e ↦ subst (λ (g : StreamFault). TalkStops answers stands stays most input rest old told s u g) (sym e)
                 (x.ended, cut x.text u x.ended x.answered told x.wrote, MayEndIn-none Memory)
           ]
-          | inr x ↦ subst (λ (g : StreamFault). TalkStops answers stays most input rest old told s u g) (sym x.fault_is)
-              (subst (λ (v : Talk S). TalkStops answers stays most input rest old told s v Memory) (sym x.same)
+          | inr x ↦ subst (λ (g : StreamFault). TalkStops answers stands stays most input rest old told s u g) (sym x.fault_is)
+              (subst (λ (v : Talk S). TalkStops answers stands stays most input rest old told s v Memory) (sym x.same)
               (None, dropped x.wrote, b.2))
         ]
           where
-            dropped : Appends new told [] → ServesSome answers stays AppendsPart input rest old told s t None
+            dropped : Appends new told [] → ServesSome answers stands stays AppendsPart input rest old told s t None
             dropped w = record {
               taken = P.taken;
               part = b.0;

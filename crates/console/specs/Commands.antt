@@ -2,12 +2,11 @@
 use Rattle.std.specs.Prelude.{ℕ, Bool, true, false, ◌≡◌, ◌≢◌, ◌||◌, bytes_eq, codes, if◌then◌else◌, List, [], ◌∷◌, Option, Some, None, Result, Ok, Err}
 use Rattle.registry_model.specs.Call.{Register, ReRegister, Unregister, RegisteredNames, NoticesOf, Whereis as LooksUp}
 use Rattle.protocol_model.specs.Event.{Event, Calling, Exiting, Leave as Leaving, Spawn, OnName, LookUp, JoinBy}
-use Rattle.protocol_model.specs.NamedEvents.{NamedLine as Line}
 use Rattle.term.specs.declared.rule.Rule.TheVariants as rule
 use Rattle.command_lines.specs.NodeEventsSeen.{call_of}
 use Rattle.command_lines.specs.declared.faults.LineFault.{LineFault}
 use Rattle.command_lines.specs.declared.faults.LineFault.TheVariants.{BadLine}
-use Rattle.command_lines.specs.Grammar.{Contact, Name, Pid, Rule, Row, row, row_of, at_node, call_at, pair_for, AsksBy, WordsAsk}
+use Rattle.command_lines.specs.Grammar.{ScriptLine as Line, Contact, Name, Pid, Rule, Row, row, row_of, at_node, call_at, pair_for, AsksBy, WordsAsk}
 use Rattle.command_lines.specs.Commands.{unread}
 use Rattle.text_lines.specs.Words.{words}
 use Rattle.console.specs.declared.orders.Order.{Order}

@@ -1,5 +1,5 @@
 -- What a console asks and prints for its lines.
-use Rattle.std.specs.Prelude.{ℕ, Bool, ◌≡◌, ◌<◌, ◌≤◌, ◌+◌, ◌⊎◌, codes, unwrap_or, length, List, [], ◌∷◌, ◌++◌, Option, Some, None, Result, Ok, Err}
+use Rattle.std.specs.Prelude.{ℕ, Bool, false, ◌≡◌, ◌<◌, ◌≤◌, ◌+◌, ◌⊎◌, codes, unwrap_or, length, List, [], ◌∷◌, ◌++◌, Option, Some, None, Result, Ok, Err}
 use Rattle.std.specs.List.{concat}
 use Rattle.std.specs.Io.KnownBytes.{Appends}
 use Rattle.registry_model.specs.Process.{Process}
@@ -15,7 +15,7 @@ use Rattle.text_lines.specs.Lines.{BeginsWithLines, LosesLines, LosesInto, HasNo
 use Rattle.text_lines.specs.Writing.{AppendsPart, Growth}
 use Rattle.console.specs.Commands.{LineSays}
 use Rattle.console.specs.Greetings.{okay}
-use Rattle.console.specs.Links.{left_by, linked_by, most_links, own_text}
+use Rattle.console.specs.Links.{left_by, linked_by, may_wait, most_links, own_text}
 use Rattle.console.specs.Outcomes.{outcome_text}
 use Rattle.console.specs.declared.ends.ConsoleEnd.{ConsoleEnd}
 use Rattle.console.specs.declared.ends.ConsoleEnd.TheVariants as by
@@ -26,9 +26,13 @@ use Rattle.console.specs.declared.orders.Command.TheVariants.{Ask, SpawnLink, Qu
 use Rattle.console.specs.declared.status.Status.{Status as Standing}
 use Rattle.console.specs.Statuses.{status_outcome}
 
--- what an order may be answered, and what is left then
+-- what an order may be answered, and what is left then; whether it is the call of a linked process that may wait is told with it
 abbrev pub Answering : Type 0 → Type 1
-Answering S = S → Order → Result Reply SeatFault → S → Type 0
+Answering S = S → Order → Bool → Result Reply SeatFault → S → Type 0
+
+-- how the node and the server may stand, or why nobody can tell
+abbrev pub Stands : Type 0 → Type 1
+Stands S = S → Result Standing SeatFault → Type 0
 
 -- how a conversation stands: who answers, as contracts see them, and the processes that are linked to the console, in their order
 pub record Talk (S : Type 0) : Type 0 where
@@ -57,7 +61,7 @@ module _ {S : Type 0} (answers : Answering S) where
   -- each of these processes was asked to exit, once, in their order, whatever was answered
   abbrev pub Exits : List Process → S → S → Type 0
   Exits [] s t = t ≡ s
-  Exits (p ∷ ps) s t = (r : Result Reply SeatFault) × (u : S) × answers s (Exit p) r u × Exits ps u t
+  Exits (p ∷ ps) s t = (r : Result Reply SeatFault) × (u : S) × answers s (Exit p) false r u × Exits ps u t
 
   -- a conversation led so far, and then all that it left linked exited
   abbrev pub ThenExits : (Talk S → Talk S → Type 0) → S → S → Type 0
@@ -66,7 +70,7 @@ module _ {S : Type 0} (answers : Answering S) where
   -- a process was asked for and linked, if it was given; or there is no memory to link it, and nothing was asked
   abbrev pub SpawnsLinked : Talk S → Result Reply SeatFault → Talk S → Type 0
   SpawnsLinked s r t =
-      (answers s.state (Call Spawn) r t.state × (t.links ≡ s.links ++ linked_by r))
+      (answers s.state (Call Spawn) false r t.state × (t.links ≡ s.links ++ linked_by r))
       ⊎ ((r ≡ Err seat.Memory) × (t ≡ s))
 
   -- so where there is room for one more, and this is printed; else nothing is asked
@@ -79,18 +83,18 @@ module _ {S : Type 0} (answers : Answering S) where
   abbrev pub MaySpawnLinked : Talk S → Talk S → Type 0
   MaySpawnLinked s t = (t ≡ s) ⊎ ((text : List ℕ) × HeedsSpawnLink s text t)
 
-module _ {S : Type 0} (answers : Answering S) (stays : Bool) where
-  -- This is printed for what a line says, this is left, and so it ends the console, if it does: an order is printed as it was answered.
-  -- How the node and the server stand is the line of some status or refusal, and asks for nothing
+module _ {S : Type 0} (answers : Answering S) (stands : Stands S) (stays : Bool) where
+  -- This is printed for what a line says, this is left, and so it ends the console, if it does: an order is printed as it was answered,
+  -- and how the node and the server stand as it was told, which asks for nothing
   abbrev pub Heeds : Talk S → Result Command LineFault → List ℕ → Talk S → Option ConsoleEnd → Type 0
   Heeds s (Ok (Ask order)) text t ended =
-      (r : Result Reply SeatFault) × answers s.state order r t.state × (t.links ≡ left_by order r s.links) × (text ≡ outcome_text r)
+      (r : Result Reply SeatFault) × answers s.state order (may_wait order s.links) r t.state × (t.links ≡ left_by order r s.links) × (text ≡ outcome_text r)
       × (ended ≡ None)
   Heeds s (Ok SpawnLink) text t ended = HeedsSpawnLink answers s text t × (ended ≡ None)
   Heeds s (Ok Quit) text t ended = (text ≡ okay) × (t ≡ s) × (ended ≡ Some by.Quit)
   Heeds s (Ok Shutdown) text t ended = (text ≡ okay) × (t ≡ s) × (ended ≡ Some by.Shutdown)
   Heeds s (Ok Status) text t ended =
-      (r : Result Standing SeatFault) × (text ≡ status_outcome r) × (t ≡ s) × (ended ≡ None)
+      (r : Result Standing SeatFault) × stands s.state r × (text ≡ status_outcome r) × (t ≡ s) × (ended ≡ None)
   Heeds s (Err f) text t ended = (text ≡ error_line (word_of f)) × (t ≡ s) × (ended ≡ None)
 
   -- the same, for a line of a server that stays or of another

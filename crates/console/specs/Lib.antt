@@ -1,6 +1,7 @@
 pub use Rattle.command_lines.specs.Printing
 pub mod Cookies
 pub mod Faults
+pub mod Clients
 pub mod Links
 pub mod Commands
 pub mod Greetings

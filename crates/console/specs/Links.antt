@@ -1,14 +1,16 @@
 -- The processes that are linked to a console.
-use Rattle.std.specs.Prelude.{ℕ, Bool, not, nat_lt, ◌-◌, slice_get, vec_len, vec_capacity, length, filter, List, [], ◌∷◌, Option, Result, Ok}
+use Rattle.std.specs.Prelude.{ℕ, Bool, false, not, nat_lt, ◌-◌, slice_get, vec_len, vec_capacity, length, filter, List, [], ◌∷◌, Option, Result, Ok}
+use Rattle.std.specs.List.{list_any}
 use Rattle.std.specs.Option.{option_map}
 use Rattle.registry_model.specs.Process.{Process, is_process}
+use Rattle.command_lines.specs.declared.Call.TheVariants.{SetLock}
 use Rattle.command_lines.specs.declared.Reply.{Reply}
 use Rattle.command_lines.specs.declared.Reply.TheVariants.{Pid}
 use Rattle.command_lines.specs.Printing.{pid_text}
 use Rattle.node_seats.specs.declared.fault.SeatFault.{SeatFault}
 use Rattle.console.specs.declared.links.Links.{Links}
 use Rattle.console.specs.declared.orders.Order.{Order}
-use Rattle.console.specs.declared.orders.Order.TheVariants.{Exit}
+use Rattle.console.specs.declared.orders.Order.TheVariants.{Call, Exit}
 
 -- how many a console may have
 abbrev pub most_links : ℕ
@@ -30,6 +32,11 @@ own_text links = option_map pid_text (slice_get links (length links - 1))
 abbrev pub linked_by : Result Reply SeatFault → List Process
 linked_by (Ok (Pid p)) = p ∷ []
 linked_by _ = []
+
+-- whether an order may wait that one of these processes makes: a lock call
+abbrev pub may_wait : Order → List Process → Bool
+may_wait (Call (SetLock holder id nodes retries)) links = list_any (λ q. is_process q holder) links
+may_wait _ links = false
 
 -- those that stay linked where this one has exited
 abbrev pub without : Process → List Process → List Process

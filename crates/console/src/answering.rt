@@ -1,9 +1,11 @@
 //! Lines, answered one after the other.
 ghost use Rattle.std.specs.Prelude.{◌≡◌, ℕ, List, string_bytes, MatchResult};
 ghost use Rattle.std.specs.Io.Buffered.{reader_remaining};
+ghost use Rattle.std.specs.Io.KnownBytes.{Keeps};
 ghost use Rattle.text_lines.specs.Lines.{IsKept};
+ghost use Rattle.text_lines.specs.Writing.{Writes};
 ghost use Rattle.console.specs.Consoles.{AnswersLine, EndsBy, Exits, HeedsSpawnLink, MayAnswer, MaySpawnLinked, SpawnsLinked, Stops, TalkStops, TalksUntil, Tells, TellStops, talk};
-ghost use Rattle.console.specs.Links.{left_by, linked_in};
+ghost use Rattle.console.specs.Links.{left_by, linked_in, may_wait};
 
 use crate::attendant::Attendant;
 use crate::commands::read_command;
@@ -13,11 +15,11 @@ use crate::links::Links;
 use crate::orders::{Command, Order};
 use crate::outcomes::outcome_line;
 use crate::status::status_line;
-use command_lines::{Call, Reply};
+use command_lines::{Call, Reply, text_of};
 use node_seats::SeatFault;
 use std::alloc::{AllocError, Global};
 use std::io::{BufReader, Read, Write};
-use text_lines::{Line, StreamFault, tell};
+use text_lines::{Line, StreamFault, WriteFault, first_words, hand_on, tell, write_text};
 
 /// Asks something of the attendant. A process whose exit was made is linked no longer.
 fn ask<H, A: Attendant<H>>(
@@ -26,7 +28,7 @@ fn ask<H, A: Attendant<H>>(
     links: &mut Links,
     order: Order,
 ) -> Result<Reply, SeatFault>
-    ensures answered { A.answers (A.state attendant.old) order result (A.state attendant.new) }
+    ensures answered { A.answers (A.state attendant.old) order (may_wait order (linked_in links.old)) result (A.state attendant.new) }
     ensures links { linked_in links.new ≡ left_by order result (linked_in links.old) }
 {
     match order {
@@ -92,9 +94,9 @@ fn reply_to<H, A: Attendant<H>>(
     stays: bool,
 ) -> Result<(String, Option<ConsoleEnd>), AllocError>
     ensures { (bytes : List ℕ) → IsKept bytes line.now → MatchResult result
-        (λ said. AnswersLine A.answers stays bytes (talk (A.state attendant.old) (linked_in links.old)) (string_bytes said.0)
+        (λ said. AnswersLine A.answers A.stands stays bytes (talk (A.state attendant.old) (linked_in links.old)) (string_bytes said.0)
         (talk (A.state attendant.new) (linked_in links.new)) said.1)
-        (λ _. MayAnswer A.answers stays bytes (talk (A.state attendant.old) (linked_in links.old))
+        (λ _. MayAnswer A.answers A.stands stays bytes (talk (A.state attendant.old) (linked_in links.old))
         (talk (A.state attendant.new) (linked_in links.new))) }
 {
     match read_command(alloc, line, links, stays)? {
@@ -117,6 +119,39 @@ fn reply_to<H, A: Attendant<H>>(
     }
 }
 
+/// Whether a line asks for a lock, which may be waited for.
+fn asks_for_a_lock(line: &Line) -> bool {
+    match text_of(line) {
+        Ok(text) =>
+            matches!(first_words(text).as_slice().first(), Some(word) if matches!(*word, "set_lock")),
+        Err(_) => false,
+    }
+}
+
+/// Hands on the answers to lines before this one, where it may be waited for. A writer that fails then fails again with the answer.
+fn hand_on_before<W: Write>(writer: &mut W, line: &Line)
+    ensures { Keeps (W.contents writer.old) (W.contents writer.new) }
+{
+    if asks_for_a_lock(line) {
+        let _ = hand_on(writer);
+    }
+}
+
+/// Writes an answer. Where it is the last one it is handed on at once, and else before the console waits for a further line.
+fn write_answer<W: Write>(
+    writer: &mut W,
+    text: &[u8],
+    ended: &Option<ConsoleEnd>,
+) -> Result<(), WriteFault>
+    ensures { Writes (W.contents writer.old) (W.contents writer.new) result text.now }
+{
+    if ended.is_some() {
+        tell(writer, text)
+    } else {
+        write_text(writer, text)
+    }
+}
+
 /// Answers a line: how it ends the console, where it does. What is linked is noted before the answer is written.
 fn answer<H, W: Write, A: Attendant<H>>(
     rt: &H,
@@ -128,13 +163,14 @@ fn answer<H, W: Write, A: Attendant<H>>(
     stays: bool,
 ) -> Result<Option<ConsoleEnd>, StreamFault>
     ensures { (bytes : List ℕ) → IsKept bytes line.now → MatchResult result
-        (Tells A.answers stays bytes (W.contents writer.old) (W.contents writer.new)
+        (Tells A.answers A.stands stays bytes (W.contents writer.old) (W.contents writer.new)
         (talk (A.state attendant.old) (linked_in links.old)) (talk (A.state attendant.new) (linked_in links.new)))
-        (TellStops A.answers stays bytes (W.contents writer.old) (W.contents writer.new)
+        (TellStops A.answers A.stands stays bytes (W.contents writer.old) (W.contents writer.new)
         (talk (A.state attendant.old) (linked_in links.old)) (talk (A.state attendant.new) (linked_in links.new))) }
 {
+    hand_on_before(writer, line);
     let (text, ended) = reply_to(rt, alloc, attendant, links, line, stays)?;
-    tell(writer, text.as_bytes())?;
+    write_answer(writer, text.as_bytes(), &ended)?;
     Ok(ended)
 }
 
@@ -150,10 +186,10 @@ fn answer_each<H, R: Read, W: Write, A: Attendant<H>>(
     most: u64,
 ) -> Result<ConsoleEnd, StreamFault>
     ensures { MatchResult result
-        (TalksUntil A.answers stays most (reader_remaining R.remaining reader.old) (reader_remaining R.remaining reader.new)
+        (TalksUntil A.answers A.stands stays most (reader_remaining R.remaining reader.old) (reader_remaining R.remaining reader.new)
         (W.contents writer.old) (W.contents writer.new)
         (talk (A.state attendant.old) (linked_in links.old)) (talk (A.state attendant.new) (linked_in links.new)))
-        (TalkStops A.answers stays most (reader_remaining R.remaining reader.old) (reader_remaining R.remaining reader.new)
+        (TalkStops A.answers A.stands stays most (reader_remaining R.remaining reader.old) (reader_remaining R.remaining reader.new)
         (W.contents writer.old) (W.contents writer.new)
         (talk (A.state attendant.old) (linked_in links.old)) (talk (A.state attendant.new) (linked_in links.new))) }
 {
@@ -182,7 +218,8 @@ fn exit_all<H, A: Attendant<H>>(rt: &H, attendant: &mut A, links: &Links)
 /// `most` lines at most.
 ///
 /// A line that asks something is asked of the attendant, and answered with the text of the reply or the word of the refusal;
-/// any other is refused, an empty one too. Each answer is handed on before the next line is read. `Read` and `TooManyLines`:
+/// any other is refused, an empty one too. What was answered is handed on before the console waits: for a further line where none is at
+/// hand, or for a lock. Behind the last line nothing is held back but by `TooManyLines`. `Read` and `TooManyLines`:
 /// all lines that were read are answered. `Write` and `Memory`: a part of the answers is written, and nothing behind it.
 ///
 /// `spawn_link` asks for a process that is linked to the console until its exit. However the console ends, each process that is
@@ -197,9 +234,9 @@ pub fn answer_lines<H, R: Read, W: Write, A: Attendant<H>>(
     most: u64,
 ) -> Result<ConsoleEnd, StreamFault>
     ensures { MatchResult result
-        (EndsBy A.answers stays most (reader_remaining R.remaining reader.old) (reader_remaining R.remaining reader.new)
+        (EndsBy A.answers A.stands stays most (reader_remaining R.remaining reader.old) (reader_remaining R.remaining reader.new)
         (W.contents writer.old) (W.contents writer.new) (A.state attendant.old) (A.state attendant.new))
-        (Stops A.answers stays most (reader_remaining R.remaining reader.old) (reader_remaining R.remaining reader.new)
+        (Stops A.answers A.stands stays most (reader_remaining R.remaining reader.old) (reader_remaining R.remaining reader.new)
         (W.contents writer.old) (W.contents writer.new) (A.state attendant.old) (A.state attendant.new)) }
 {
     let mut links = Links::new(alloc);

@@ -1,8 +1,9 @@
 //! Who answers what lines ask.
-ghost use Rattle.std.specs.Prelude.{Result};
+ghost use Rattle.std.specs.Prelude.{Bool, Result};
 ghost use Rattle.command_lines.specs.declared.Reply.{Reply as AnyReply};
 ghost use Rattle.node_seats.specs.declared.fault.SeatFault.{SeatFault as AnyFault};
 ghost use Rattle.console.specs.declared.orders.Order.{Order as AnyOrder};
+ghost use Rattle.console.specs.declared.status.Status.{Status as AnyStatus};
 
 use crate::orders::Order;
 use crate::status::Status;
@@ -17,8 +18,11 @@ pub trait Attendant<H> {
 
     ghost state: { Self → Self.State };
 
-    /// An order may be answered so, and leave such a state.
-    ghost answers: { Self.State → AnyOrder → Result AnyReply AnyFault → Self.State → Type 0 };
+    /// An order, which is linked or isn't, may be answered so, and leave such a state.
+    ghost answers: { Self.State → AnyOrder → Bool → Result AnyReply AnyFault → Self.State → Type 0 };
+
+    /// So the node and the server may stand.
+    ghost stands: { Self.State → Result AnyStatus AnyFault → Type 0 };
 
     /// The node that it speaks for.
     fn node(&self) -> &Node;
@@ -26,8 +30,9 @@ pub trait Attendant<H> {
     /// Has an order carried out, and gives the reply, or why it is refused. Where the order is `linked` it is the call of a process that
     /// exits with the console: once the console's input has ended, it needn't be waited for.
     fn ask(&mut self, rt: &H, order: Order, linked: bool) -> Result<Reply, SeatFault>
-        ensures { answers (Self.state self.old) order result (Self.state self.new) };
+        ensures { answers (Self.state self.old) order linked result (Self.state self.new) };
 
     /// How the node stands, and the server that it is of; or why nobody can tell. It is asked in consoles of servers that stay alone.
-    fn status(&self, rt: &H) -> Result<Status, SeatFault>;
+    fn status(&self, rt: &H) -> Result<Status, SeatFault>
+        ensures { stands (Self.state self.now) result };
 }

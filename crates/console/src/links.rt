@@ -1,7 +1,7 @@
 //! The processes that are linked to a console.
 ghost use Rattle.std.specs.Prelude.{◌≡◌, ◌<◌, ◌≤◌, ◌++◌, [], true, length, string_bytes, IfOk, MatchBool, OnOk};
 ghost use Rattle.std.specs.Option.{option_map};
-ghost use Rattle.console.specs.Links.{has_room, linked_by, linked_in, most_links, own_text, without};
+ghost use Rattle.console.specs.Links.{has_room, linked_by, linked_in, may_wait, most_links, own_text, without};
 
 use crate::orders::Order;
 use command_lines::{Call, Reply};
@@ -53,7 +53,9 @@ impl Links {
     }
 
     /// Whether an order is the call of one of them that may wait.
-    pub(crate) fn may_wait(&self, order: &Order) -> bool {
+    pub(crate) fn may_wait(&self, order: &Order) -> bool
+        ensures { result ≡ may_wait order.now (linked_in self.now) }
+    {
         match order {
             Order::Call(Call::SetLock(holder, ..)) => self.as_slice().contains(holder),
             _ => false,

@@ -1,10 +1,12 @@
 //! Consoles at seats.
-ghost use Rattle.std.specs.Prelude.{false, true, MatchResult};
+ghost use Rattle.std.specs.Prelude.{◌≡◌, false, true, IfErr, IfOk, MatchResult};
 ghost use Rattle.std.specs.Io.Buffered.{reader_remaining};
 ghost use Rattle.text_lines.specs.Lines.{most_lines};
+ghost use Rattle.node_seats.specs.Callers.{IsEnd};
 ghost use Rattle.node_seats.specs.Seats.{Sitting};
+ghost use Rattle.console.specs.Clients.{is_given_up};
 ghost use Rattle.console.specs.Consoles.{EndsBy, Serves, Stops, most_staying};
-ghost use Rattle.console.specs.Seats.{SeatAnswers, IsTranscript};
+ghost use Rattle.console.specs.Seats.{SeatAnswers, SeatGives, SeatStands, IsTranscript};
 ghost use Rattle.console.specs.declared.orders.Order.TheVariants.{Call as Calls, Whereis, Exit, Leave};
 
 use crate::answering::answer_lines;
@@ -27,7 +29,7 @@ const MOST_STAYING: u64 = u64::MAX;
 
 /// Looks a name up from a seat.
 fn look_up<T: Notes>(seat: &mut Seat<T>, name: &Name) -> Result<Reply, SeatFault>
-    ensures { SeatAnswers seat.old (Whereis name.now) result seat.new }
+    ensures { SeatGives seat.old (Whereis name.now) result seat.new }
 {
     match seat.whereis(name)? {
         Some(owner) => Ok(Reply::Pid(owner)),
@@ -41,7 +43,7 @@ fn exit<H: Wait + Clock, T: Notes>(
     seat: &mut Seat<T>,
     process: &Pid,
 ) -> Result<Reply, SeatFault>
-    ensures { SeatAnswers seat.old (Exit process.now) result seat.new }
+    ensures { SeatGives seat.old (Exit process.now) result seat.new }
 {
     seat.exit(rt, process)?;
     Ok(Reply::Ok)
@@ -49,20 +51,22 @@ fn exit<H: Wait + Clock, T: Notes>(
 
 /// Has the node of a seat leave.
 fn leave<H: Wait + Clock, T: Notes>(rt: &H, seat: &mut Seat<T>) -> Result<Reply, SeatFault>
-    ensures { SeatAnswers seat.old Leave result seat.new }
+    ensures { SeatGives seat.old Leave result seat.new }
 {
     seat.leave(rt)?;
     Ok(Reply::Ok)
 }
 
 impl<H: Wait + Clock, T: Notes> Attendant<H> for Seat<T> {
-    ghost use Rattle.console.specs.Seats.{SeatAnswers};
+    ghost use Rattle.console.specs.Seats.{SeatAnswers, SeatStands};
 
     type State = Seat<T>;
 
     ghost state = { λ s. s };
 
     ghost answers = { SeatAnswers };
+
+    ghost stands = { SeatStands };
 
     fn node(&self) -> &Node {
         Seat::<T>::node(self)
@@ -98,13 +102,20 @@ struct Waiting<'a, C: Client> {
     linked: bool,
 }
 
+/// Whether a call that waits is given up, as its client stands.
+fn is_given_up(peer: Peer, linked: bool) -> bool
+    ensures { result ≡ is_given_up peer linked }
+{
+    match peer {
+        Peer::Listens => false,
+        Peer::InputEnded => linked,
+        Peer::Gone => true,
+    }
+}
+
 impl<'a, C: Client> Beside for Waiting<'a, C> {
     fn has_gone(&self) -> bool {
-        match self.client.peer() {
-            Peer::Listens => false,
-            Peer::InputEnded => self.linked,
-            Peer::Gone => true,
-        }
+        is_given_up(self.client.peer(), self.linked)
     }
 }
 
@@ -125,7 +136,7 @@ impl<'a, T: Notes, C: Client + Drop, B> ClientSeat<'a, T, C, B> {
         call: Call,
         linked: bool,
     ) -> Result<Reply, SeatFault>
-        ensures { SeatAnswers self.old.seat (Calls call) result self.new.seat }
+        ensures { SeatGives self.old.seat (Calls call) result self.new.seat }
     {
         if !matches!(call, Call::SetLock(..)) {
             return self.seat.call(rt, call);
@@ -136,6 +147,19 @@ impl<'a, T: Notes, C: Client + Drop, B> ClientSeat<'a, T, C, B> {
         };
         self.seat.call_beside(rt, call, &waiting)
     }
+
+    /// How the node of the seat stands, and what the house bears.
+    fn standing<H>(&self, rt: &H) -> Result<Status, SeatFault>
+    where
+        B: House<H>,
+        ensures node { IfOk result (λ status. status.node.node ≡ self.now.seat.node) }
+        ensures load { IfOk result (λ status. B.bears self.now.house.now status.load) }
+        ensures ended { IfErr result IsEnd }
+    {
+        let node = self.seat.status()?;
+        let load = self.house.load(rt);
+        Ok(Status { node, load })
+    }
 }
 
 impl<'a, H, T, C, B> Attendant<H> for ClientSeat<'a, T, C, B>
@@ -145,13 +169,15 @@ where
     C: Client + Drop,
     B: House<H>,
 {
-    ghost use Rattle.console.specs.Seats.{SeatAnswers};
+    ghost use Rattle.console.specs.Seats.{SeatAnswers, SeatStands};
 
     type State = Seat<T>;
 
     ghost state = { λ s. s.seat };
 
     ghost answers = { SeatAnswers };
+
+    ghost stands = { SeatStands };
 
     fn node(&self) -> &Node {
         self.seat.node()
@@ -167,9 +193,7 @@ where
     }
 
     fn status(&self, rt: &H) -> Result<Status, SeatFault> {
-        let node = self.seat.status()?;
-        let load = self.house.load(rt);
-        Ok(Status { node, load })
+        self.standing(rt)
     }
 }
 
@@ -185,10 +209,10 @@ pub fn serve<R: Read, W: Write, H: Wait + Clock>(
 ) -> Result<Transcript, (StreamFault, Transcript)>
     ensures { MatchResult result
         (λ transcript. (t : Sitting) × IsTranscript t transcript
-        × Serves SeatAnswers false most_lines (reader_remaining R.remaining reader.old) (reader_remaining R.remaining reader.new)
+        × Serves SeatAnswers SeatStands false most_lines (reader_remaining R.remaining reader.old) (reader_remaining R.remaining reader.new)
         (W.contents writer.old) (W.contents writer.new) seat t)
         (λ ended. (t : Sitting) × IsTranscript t ended.1
-        × Stops SeatAnswers false most_lines (reader_remaining R.remaining reader.old) (reader_remaining R.remaining reader.new)
+        × Stops SeatAnswers SeatStands false most_lines (reader_remaining R.remaining reader.old) (reader_remaining R.remaining reader.new)
         (W.contents writer.old) (W.contents writer.new) seat t ended.0) }
 {
     let most = u64::from(MOST_LINES);
@@ -224,9 +248,9 @@ where
     C: Client + Drop,
     B: House<H>,
     ensures { MatchResult result.0
-        (EndsBy SeatAnswers true most_staying (reader_remaining R.remaining reader.old) (reader_remaining R.remaining reader.new)
+        (EndsBy SeatAnswers SeatStands true most_staying (reader_remaining R.remaining reader.old) (reader_remaining R.remaining reader.new)
         (W.contents writer.old) (W.contents writer.new) seat result.1)
-        (Stops SeatAnswers true most_staying (reader_remaining R.remaining reader.old) (reader_remaining R.remaining reader.new)
+        (Stops SeatAnswers SeatStands true most_staying (reader_remaining R.remaining reader.old) (reader_remaining R.remaining reader.new)
         (W.contents writer.old) (W.contents writer.new) seat result.1) }
 {
     let mut attendant = ClientSeat {

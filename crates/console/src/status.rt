@@ -1,5 +1,6 @@
 //! How a node stands, and the server that serves its consoles.
 ghost use Rattle.std.specs.Prelude.{◌≡◌, ◌++◌, IfOk, OnOk, string_bytes};
+ghost use Rattle.console.specs.declared.status.Load.{Load as AnyLoad};
 ghost use Rattle.console.specs.Statuses.{load_text, node_text, numbers_text, status_line as any_line, status_outcome, standing_word};
 
 use crate::outcomes::seat_line;
@@ -27,8 +28,12 @@ pub struct Status {
 
 /// A server that serves consoles until one asks for its end, as it tells of itself. It is given what it waits with, of the type `H`.
 pub trait House<H> {
+    /// It may bear so much.
+    ghost bears: { Self → AnyLoad → Type 0 };
+
     /// What it bears: the consoles of this moment, and the memory of its last look.
-    fn load(&self, rt: &H) -> Load;
+    fn load(&self, rt: &H) -> Load
+        ensures { bears self.now result };
 }
 
 /// The word for whether a node is joined.

@@ -141,7 +141,7 @@ module _ (o : NamedOpening) where
   deliveries_are (NamedEvent.At x e ∷ ds) D = absurd (cc D)
   deliveries_are (NamedEvent.Restart x ∷ ds) D = absurd (cc D)
 
-  plain_deliveries : (ds : List NamedEvent) (w : NamedWorld) → list_all is_named_delivery ds ≡ true
+  pub plain_deliveries : (ds : List NamedEvent) (w : NamedWorld) → list_all is_named_delivery ds ≡ true
       → list_all is_delivery (plain_events o w ds) ≡ true
   plain_deliveries [] w D = refl
   plain_deliveries (NamedEvent.Deliver f t ∷ ds) w D =

@@ -27,7 +27,7 @@ use Rattle.leftovers.proofs.Families.{Whole as WholeWorld, whole}
 use Rattle.leftovers.proofs.Quiet.{at_ease, registrars}
 
 -- one list of events after another
-course-append : (o : Opening) (w : World) (xs ys : List WorldEvent)
+pub course-append : (o : Opening) (w : World) (xs ys : List WorldEvent)
     → course o w (xs ++ ys) ≡ course o w xs ++ course o (run o w xs) ys
 course-append o w [] ys = refl
 course-append o w (x ∷ xs) ys =

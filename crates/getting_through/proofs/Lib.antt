@@ -1,3 +1,7 @@
+pub use Rattle.named_events.proofs.Settling
+pub use Rattle.no_dead_end.proofs.CallsAnswered
+pub use Rattle.no_dead_end.proofs.NamedDeliveries
+pub use Rattle.no_dead_end.proofs.NamedQuiet
 pub mod Groups
 pub mod Storm
 pub mod StormRounds
@@ -8,4 +12,6 @@ pub mod StormEvents
 pub mod Entered
 pub mod Laws
 pub mod Freeing
-pub mod NamedFreeing
+pub mod NamedStorms
+pub mod NamedFinishing
+pub mod NamedThrough

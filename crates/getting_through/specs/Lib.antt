@@ -1,4 +1,10 @@
+pub use Rattle.named_events.specs.Settling
+pub use Rattle.no_dead_end.specs.NamedNoDeadEnd
+pub use Rattle.no_dead_end.specs.QuietWorlds
+pub use Rattle.no_dead_end.specs.Answering
 pub mod Pending
 pub mod GettingThrough
 pub mod GettingFree
 pub mod NamedGettingFree
+pub mod NamedGettingThrough
+pub mod NamedFinishing

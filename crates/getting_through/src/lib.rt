@@ -6,6 +6,8 @@ ghost use Rattle.protocol_model.specs.Leftovers.{Always};
 ghost use Rattle.getting_through.specs.GettingThrough.{SomeoneGetsThrough, RetriesAloneEnd, NameCallsAloneAnswered};
 ghost use Rattle.no_dead_end.specs.NamedNoDeadEnd.{AlwaysNamed};
 ghost use Rattle.getting_through.specs.NamedGettingFree.{NamedRegistrarsGetFree};
+ghost use Rattle.getting_through.specs.NamedGettingThrough.{NamedSomeoneGetsThrough, NamedStormsAreFew};
+ghost use Rattle.getting_through.specs.NamedFinishing.{NamedPendingStays, NamedRetriesLower, FinishingEnds};
 ghost use Rattle.getting_through.specs.GettingFree.{PendingStays, RegistrarsGetFree, StormsAreFew};
 
 /// Whoever retries, someone gets through: from a quiet world letters are delivered and nodes are retried, in any order, a refused
@@ -46,4 +48,32 @@ pub fn storms_are_few()
 /// settled world, where each running registrar is free and each name call and each join has been answered.
 pub fn names_get_free()
     ensures { AlwaysNamed NamedRegistrarsGetFree }
+{}
+
+/// Whoever retries, someone gets through in worlds of names, too, by any deliveries and retries: some registrar that was refused has
+/// ended its operation, and less is pending.
+pub fn named_someone_gets_through()
+    ensures { AlwaysNamed NamedSomeoneGetsThrough }
+{}
+
+/// Nor does it matter there who is retried: that is done no more often than is pending, each time until no letter waits again.
+pub fn named_storms_are_few()
+    ensures { AlwaysNamed NamedStormsAreFew }
+{}
+
+/// Nor is more pending in a world of names behind any deliveries and retries.
+pub fn named_pending_never_rises()
+    ensures { AlwaysNamed NamedPendingStays }
+{}
+
+/// Where a refused registrar of a quiet world of names is retried, and letters are delivered until none waits, less is pending.
+pub fn named_retries_lower()
+    ensures { AlwaysNamed NamedRetriesLower }
+{}
+
+/// So a world of names is finished, but for lock calls, by retries of its first refused node, each behind deliveries until no letter
+/// waits: after no more of them than was pending no letter waits, no registrar is refused, and each name call and each join has been
+/// answered.
+pub fn finishing_ends()
+    ensures { AlwaysNamed FinishingEnds }
 {}

@@ -11,11 +11,15 @@ pub mod CallWork
 pub mod HeldStrikes
 pub mod RuleWork
 pub mod DeliveryWork
+pub mod TurnWork
+pub mod Payments
 pub mod Premises
 pub mod AdmitsJoined
 pub mod Bounded
 pub mod Deliveries
+pub mod EventsPay
 pub mod QuietWorlds
 pub mod CallsAnswered
 pub mod NamedDeliveries
+pub mod NamedPayments
 pub mod NamedQuiet

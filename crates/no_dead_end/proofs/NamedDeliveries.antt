@@ -49,6 +49,15 @@ narrower o s up w a sub here R = record {
   struck = R.struck;
 }
 
+-- who counts is up
+pub counts_up : (o : NamedOpening) (w : NamedWorld) (c : ℕ) → up o w c ≡ true → IsUpNamed o w c
+counts_up o w c h =
+    let p : ((in_world (opening_of o) c && has_started o w c) ≡ true) × (not (left w.world c) ≡ true) =
+    both (in_world (opening_of o) c && has_started o w c) (not (left w.world c)) h in
+    let q : (in_world (opening_of o) c ≡ true) × (has_started o w c ≡ true) =
+    both (in_world (opening_of o) c) (has_started o w c) p.0 in
+    record { inside = q.0; started = q.1; stays = not_true (left w.world c) p.1 }
+
 module _ (o : NamedOpening) (es : List NamedEvent) where
   abbrev w : NamedWorld
   w = after_events o es
@@ -59,26 +68,19 @@ module _ (o : NamedOpening) (es : List NamedEvent) where
   pub begun : Both O (AdmitsJoined O) (keeps O) w.world
   begun = subst (Both O (AdmitsJoined O) (keeps O)) (sym (named_runs_are_runs o es)) (known O (as_events o es))
 
-  -- who counts is up, and the present node of its name
-  is_up : (c : ℕ) → up o w c ≡ true → IsUpNamed o w c
-  is_up c h =
-      let p : ((in_world O c && has_started o w c) ≡ true) × (not (left w.world c) ≡ true) =
-      both (in_world O c && has_started o w c) (not (left w.world c)) h in
-      let q : (in_world O c ≡ true) × (has_started o w c ≡ true) = both (in_world O c) (has_started o w c) p.0 in
-      record { inside = q.0; started = q.1; stays = not_true (left w.world c) p.1 }
-
+  -- it is the present node of its name, so there are no more than names
   pub few : length (nodes_of O.bound (up o w)) ≤ names_size o
   few = no_more O.bound o.bound (up o w) (is_name o) (name_of o) (present_node o w) (λ c h.
-      let i : is_name o (name_of o c) ≡ true = sym (inside-name o c) ∙ (is_up c h).inside in (
+      let i : is_name o (name_of o c) ≡ true = sym (inside-name o c) ∙ (counts_up o w c h).inside in (
         ltb-true (name_of o c) o.bound (and_parts (nat_lt (name_of o c) o.bound) (o.names (name_of o c)) i).0,
         i,
-        (nodes_always_stand o es).is_present c (is_up c h),
+        (nodes_always_stand o es).is_present c (counts_up o w c h),
       ))
 
   ready : (a : ℕ) → has_started o w a ≡ true → (x : World) → Along O w.world x → in_world O a ≡ true → left x a ≡ false
       → Ready O (up o w) x a
   ready a started x A i l = narrower O (running O w.world) (up o w) x a
-      (λ c h. let u : IsUpNamed o w c = is_up c h in rw (u.inside, u.stays) refl)
+      (λ c h. let u : IsUpNamed o w c = counts_up o w c h in rw (u.inside, u.stays) refl)
       (rw (i, started, sym (ap (λ (s : Nodes). s a) A.stays) ∙ l) refl) (along_ready O a w.world x A i l)
 
   -- a delivery by names lowers the work

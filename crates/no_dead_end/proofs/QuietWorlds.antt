@@ -20,7 +20,7 @@ use Rattle.leftovers.proofs.Rest.{WorkRests}
 use Rattle.no_dead_end.specs.QuietWorlds.{admits, admissions, AtRest, Idle, Refused, Knocks, QuietWorldsRest}
 
 -- a call of a list of open calls stands for its process
-found_call : (xs cs : List LockCall) (c : LockCall) → AllOpen xs cs → Contains cs c → call_of c.holder xs ≡ Some c
+pub found_call : (xs cs : List LockCall) (c : LockCall) → AllOpen xs cs → Contains cs c → call_of c.holder xs ≡ Some c
 found_call xs [] c A i = absurd (Contains-nil c i)
 found_call xs (d ∷ cs) c A i = go (Contains-cases d cs c i) (λ k. found_call xs cs c A.1 k)
   where

@@ -2,6 +2,8 @@ pub mod Weights
 pub mod Work
 pub mod Units
 pub mod Deliveries
+pub mod Payments
 pub mod QuietWorlds
 pub mod Answering
 pub mod NamedNoDeadEnd
+pub mod NamedPayments

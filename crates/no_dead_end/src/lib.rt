@@ -4,10 +4,12 @@
 
 ghost use Rattle.protocol_model.specs.Leftovers.{Always};
 ghost use Rattle.no_dead_end.specs.Deliveries.{DeliveriesLower, SettlesInTime};
+ghost use Rattle.no_dead_end.specs.Payments.{EventsPay};
 ghost use Rattle.no_dead_end.specs.Units.{WorkIsBounded};
 ghost use Rattle.no_dead_end.specs.QuietWorlds.{QuietWorldsRest};
 ghost use Rattle.no_dead_end.specs.Answering.{QuietWorldsAnswer, SettledWorldsAnswer};
 ghost use Rattle.no_dead_end.specs.NamedNoDeadEnd.{AlwaysNamed, NamedDeliveriesLower, NamedWorkIsBounded, LimitsAreWork, NamedQuietWorldsRest, NamedQuietWorldsAnswer, NamedSettledWorldsAnswer};
+ghost use Rattle.no_dead_end.specs.NamedPayments.{NamedEventsPay};
 
 /// Each delivery lowers the work that a world has still to do.
 pub fn deliveries_lower()
@@ -17,6 +19,11 @@ pub fn deliveries_lower()
 /// So a `settle` of as many deliveries as there is work leaves a world in which no letter waits.
 pub fn settles_in_time()
     ensures { Always SettlesInTime }
+{}
+
+/// No event raises the work by more than it pays: so all deliveries of a run are at most what its other events pay.
+pub fn events_pay()
+    ensures { Always EventsPay }
 {}
 
 /// There is no more work than sixteen letters for each node and for each letter, operation, lock call and name that the world has.
@@ -49,6 +56,11 @@ pub fn deliveries_by_names_lower()
 /// There, too, is no more work than sixteen letters for each name of a node and for each letter, operation, lock call and name.
 pub fn work_of_names_is_bounded()
     ensures { AlwaysNamed NamedWorkIsBounded }
+{}
+
+/// No event by names raises the work by more than it pays, and a restart not at all.
+pub fn events_by_names_pay()
+    ensures { AlwaysNamed NamedEventsPay }
 {}
 
 /// So a script's `settle` prints `settle_limit` only where there was more work than deliveries are allowed.

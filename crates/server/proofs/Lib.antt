@@ -4,3 +4,4 @@ mod Doors
 mod Joining
 mod Closing
 mod Reseating
+mod Posting

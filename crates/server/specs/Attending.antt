@@ -11,7 +11,7 @@ use Rattle.text_lines.specs.declared.faults.StreamFault.{StreamFault}
 use Rattle.console.specs.Consoles.{Serves, Stops}
 use Rattle.console.specs.Greetings.{Greets, GreetStops}
 use Rattle.console.specs.Outcomes.{seat_word}
-use Rattle.console.specs.Seats.{SeatAnswers, IsTranscript}
+use Rattle.console.specs.Seats.{SeatAnswers, SeatStands, IsTranscript}
 use Rattle.server.specs.declared.served.Left.{Left}
 use Rattle.server.specs.declared.served.Left.TheVariants.{Served, Unserved}
 
@@ -26,7 +26,7 @@ Reaches nodes place = IfOk place (λ free. (n : ℕ) → set_of nodes n ≡ true
 -- the console read its lines and wrote their answers so, until it ended well or with a fault
 abbrev pub Talks : Option (List ℕ) → Option (List ℕ) → Option (List ℕ) → Option (List ℕ) → Sitting → Sitting → Type 0
 Talks input rest old new s t =
-    Serves SeatAnswers false most_lines input rest old new s t ⊎ ((f : StreamFault) × Stops SeatAnswers false most_lines input rest old new s t f)
+    Serves SeatAnswers SeatStands false most_lines input rest old new s t ⊎ ((f : StreamFault) × Stops SeatAnswers SeatStands false most_lines input rest old new s t f)
 
 -- it was served at its seat at this node, and this is the transcript
 pub record IsSeated (node : ℕ) (input rest old new : Option (List ℕ)) (free : List Sitting) (transcript : Transcript) : Type 0 where

@@ -10,4 +10,5 @@ pub mod Serving
 pub mod Staying
 pub mod Lookouts
 pub mod Notes
+pub mod Streams
 pub mod Visits

@@ -1,13 +1,17 @@
 -- The lines on which a server that stays tells what happens.
-use Rattle.std.specs.Prelude.{ℕ, Bool, true, false, List, ◌∷◌, ◌++◌, codes, Result, Ok, Err}
+use Rattle.std.specs.Prelude.{ℕ, Bool, true, false, Option, Some, None, List, ◌∷◌, ◌++◌, codes, Result, Ok, Err}
 use Rattle.std.specs.Fmt.{decimal}
 use Rattle.term.specs.Spelling.{name_bytes, node_bytes}
 use Rattle.text_lines.specs.declared.faults.StreamFault.{StreamFault}
 use Rattle.text_lines.specs.declared.faults.StreamFault.TheVariants as fault
 use Rattle.console.specs.declared.ends.ConsoleEnd.{ConsoleEnd}
 use Rattle.console.specs.declared.ends.ConsoleEnd.TheVariants as by
+use Rattle.console.specs.declared.status.Load.{Load}
+use Rattle.server.specs.declared.staying.desk.Message.{Message}
+use Rattle.server.specs.declared.staying.desk.Message.TheVariants as message
 use Rattle.server.specs.declared.staying.notes.Note.{Note}
 use Rattle.server.specs.declared.staying.notes.Note.TheVariants.{Taken, Parted, NotAttached, TooMany, AcceptFailed, Spent}
+use Rattle.server.specs.declared.staying.notes.Supply.{Supply}
 use Rattle.server.specs.declared.staying.notes.Supply.TheVariants.{Calls, Serials}
 use Rattle.server.specs.declared.staying.notes.Parting.{Parting}
 use Rattle.server.specs.declared.staying.notes.Parting.TheVariants.{Quit, Input, Shutdown, Unseated, Read, Write, Lines, Memory}
@@ -27,6 +31,16 @@ abbrev pub asks_for_the_end : Parting → Bool
 asks_for_the_end Shutdown = true
 asks_for_the_end _ = false
 
+-- what is said then to the desk beside how it ended
+abbrev pub shutdown_by : Parting → Option Message
+shutdown_by Shutdown = Some message.Shutdown
+shutdown_by _ = None
+
+-- whether a message asks for the end of the server
+abbrev pub is_shutdown : Message → Bool
+is_shutdown message.Shutdown = true
+is_shutdown _ = false
+
 -- the word for how it ended
 abbrev pub parting_word : Parting → List ℕ
 parting_word Quit = codes "quit"
@@ -37,6 +51,15 @@ parting_word Read = codes "read"
 parting_word Write = codes "write"
 parting_word Lines = codes "lines"
 parting_word Memory = codes "memory"
+
+-- what is told of these numbers of a node, where they are nearly spent
+abbrev pub note_if : Bool → Supply → ℕ → Option Note
+note_if true supply node = Some (Spent supply node)
+note_if false supply node = None
+
+-- what a server bears that serves so many consoles, in so much memory
+abbrev pub load_of : ℕ → ℕ → Load
+load_of consoles memory = record { consoles = consoles; memory = memory }
 
 -- what is told of the console with this number
 abbrev pub told_of : ℕ → List ℕ → List ℕ

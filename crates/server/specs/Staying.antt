@@ -1,8 +1,10 @@
 -- What serving a cluster comes to that stays until a console asks for its end.
-use Rattle.std.specs.Prelude.{ℕ, Bool, ◌≡◌, is_ok, List, [], ◌∷◌, ◌++◌, codes, Option, Some, None, Result, Ok, Err}
+use Rattle.std.specs.Prelude.{ℕ, Bool, ◌≡◌, ◌+◌, ◌⊎◌, is_ok, All, length, List, [], ◌∷◌, ◌++◌, codes, Option, Some, None, Result, Ok, Err}
 use Rattle.std.specs.Global.{Global}
+use Rattle.std.specs.declared.thread.PromisedHandle.{PromisedHandle}
 use Rattle.std.specs.Io.KnownBytes.{Appends, Keeps}
 use Rattle.registry_model.specs.Table.{Table}
+use Rattle.term.specs.NodeSets.{set_of}
 use Rattle.term.specs.Spelling.{node_bytes}
 use Rattle.console.specs.Printing.{error_line}
 use Rattle.node_threads.specs.declared.ending.EndedCluster.{EndedCluster}
@@ -10,11 +12,12 @@ use Rattle.node_threads.specs.declared.ending.EndFault.{EndFault}
 use Rattle.node_threads.specs.declared.ending.EndFault.TheVariants as untold
 use Rattle.node_threads.specs.Wires.{IsCrew}
 use Rattle.node_threads.specs.Seating.{no_seats}
-use Rattle.node_threads.specs.Clusters.{Crewed, seats_more, seats_fewer}
+use Rattle.node_threads.specs.Clusters.{Crewed, nodes_in, seats_more, seats_fewer}
 use Rattle.node_threads.specs.Ending.{EndIs}
 use Rattle.text_lines.specs.Writing.{AppendsPart}
-use Rattle.server.specs.declared.faults.ServeFault.{ServeFault}
-use Rattle.server.specs.declared.faults.ServeFault.TheVariants.{Accept, Write, Memory}
+use Rattle.server.specs.declared.faults.StayFault.{StayFault}
+use Rattle.server.specs.declared.faults.StayFault.TheVariants.{Start, Write, Memory}
+use Rattle.server.specs.declared.staying.staff.Posted.{Posted}
 use Rattle.server.specs.Ending.{closed_line}
 
 -- the words for which it isn't told what a cluster came to
@@ -42,16 +45,44 @@ pub record Reseats (c d : Crewed) : Type 0 where
   pub turns : List (Option ℕ)
   pub is : d ≡ reseated turns c
 
+-- these are the nodes of the cluster: those that are joined with each other, and those that stand for themselves
+abbrev pub AreAll : List ℕ → Crewed → Type 0
+AreAll nodes c = (n : ℕ) → set_of nodes n ≡ set_of (nodes_in c) n
+
+-- the threads of a server, by the nodes that each was started for
+abbrev pub Crew : Type 0
+Crew = List (PromisedHandle (List ℕ) Posted)
+
+-- each of them was started for just these nodes
+abbrev pub Serve : List ℕ → Crew → Type 0
+Serve nodes threads = All (λ t. t.promise.0.value ≡ nodes) threads
+
+-- so many more were started, for just these
+pub record Starts (nodes : List ℕ) (many : ℕ) (old new : Crew) : Type 0 where
+  pub served : Serve nodes old → Serve nodes new
+  pub counted : length new ≡ length old + many
+
 -- so this cluster ended
 abbrev pub Ends : Crewed → Ending → Type 0
 Ends c ending = EndIs (λ t. t) c.cluster c.lone c.crew ending
 
 -- the writer got the line that tells so, all of it, or a part where it failed; or memory was refused for the line
-abbrev pub TellsEnd : Crewed → Option (List ℕ) → Option (List ℕ) → Result Bool ServeFault → Type 0
+abbrev pub TellsEnd : Crewed → Option (List ℕ) → Option (List ℕ) → Result Bool StayFault → Type 0
 TellsEnd c old new (Ok good) = (ending : Ending) × Ends c ending × (good ≡ is_ok ending) × Appends old new (end_line ending)
 TellsEnd c old new (Err Write) = (ending : Ending) × Ends c ending × AppendsPart old new (end_line ending)
 TellsEnd c old new (Err Memory) = Keeps old new
-TellsEnd c old new (Err Accept) = ⊥
+TellsEnd c old new (Err Start) = ⊥
+
+-- the writer got this first line from a cluster whose threads are all there; then seats were given out and taken back until it ended, and
+-- the writer got the line that tells so. Where it failed it got a part, of the first line or behind it; for the last one memory may be
+-- refused
+abbrev pub StaysRunning : Crewed → List ℕ → Option (List ℕ) → Option (List ℕ) → Result Bool StayFault → Type 0
+StaysRunning c first old new (Ok good) = (last : Crewed) × Reseats c last × (ending : Ending) × Ends last ending
+    × (good ≡ is_ok ending) × Appends old new (first ++ end_line ending)
+StaysRunning c first old new (Err Write) = AppendsPart old new first
+    ⊎ ((last : Crewed) × Reseats c last × (ending : Ending) × Ends last ending × AppendsPart old new (first ++ end_line ending))
+StaysRunning c first old new (Err Memory) = Appends old new first
+StaysRunning c first old new (Err Start) = ⊥
 
 -- A cluster of these nodes gave out its seats, from the first on, and took them back, and ended so
 pub record EndsAfter (cluster lone : List ℕ) (ending : Ending) : Type 0 where
@@ -63,12 +94,13 @@ pub record EndsAfter (cluster lone : List ℕ) (ending : Ending) : Type 0 where
   pub of : (last.cluster ≡ cluster) × (last.lone ≡ lone) × (last.crew ≡ first.crew)
   pub ends : Ends last ending
 
--- the writer got the line that tells what the cluster came to: all of it, or a part where it failed. After another fault it
--- got nothing. The result is true where the run of the threads was one of the world's. No connection that isn't taken ends it
-abbrev pub StaysCluster : List ℕ → List ℕ → Option (List ℕ) → Option (List ℕ) → Result Bool ServeFault → Type 0
-StaysCluster cluster lone old new (Ok good) =
-    (ending : Ending) × EndsAfter cluster lone ending × (good ≡ is_ok ending) × Appends old new (end_line ending)
-StaysCluster cluster lone old new (Err Write) =
-    (ending : Ending) × EndsAfter cluster lone ending × AppendsPart old new (end_line ending)
-StaysCluster cluster lone old new (Err Accept) = ⊥
-StaysCluster cluster lone old new (Err Memory) = Keeps old new
+-- the writer got this first line, once all was there to serve with, and then the line that tells what the cluster came to: all of them, or
+-- a part where it failed, or the first alone where memory was refused for the last. Where not all could be had it got nothing. The
+-- result is true where the run of the threads was one of the world's
+abbrev pub StaysCluster : List ℕ → List ℕ → List ℕ → Option (List ℕ) → Option (List ℕ) → Result Bool StayFault → Type 0
+StaysCluster cluster lone first old new (Ok good) =
+    (ending : Ending) × EndsAfter cluster lone ending × (good ≡ is_ok ending) × Appends old new (first ++ end_line ending)
+StaysCluster cluster lone first old new (Err Write) = AppendsPart old new first
+    ⊎ ((ending : Ending) × EndsAfter cluster lone ending × AppendsPart old new (first ++ end_line ending))
+StaysCluster cluster lone first old new (Err Memory) = Appends old new first
+StaysCluster cluster lone first old new (Err Start) = Keeps old new

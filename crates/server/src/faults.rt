@@ -2,6 +2,7 @@
 ghost use Rattle.std.specs.Prelude.{◌≡◌};
 ghost use Rattle.server.specs.Faults.{fault_of_taking};
 ghost use Rattle.server.specs.declared.faults.ServeFault.{ServeFault as AnyFault};
+ghost use Rattle.server.specs.declared.faults.StayFault.{StayFault as AnyStayFault};
 ghost use Rattle.server.specs.declared.faults.TakeFault.{TakeFault as AnyTakeFault};
 
 use std::alloc::AllocError;
@@ -36,6 +37,36 @@ impl From<WriteFault> for ServeFault {
 
     fn from(_: WriteFault) -> ServeFault {
         ServeFault::Write
+    }
+}
+
+/// Why a cluster that stays isn't served to its end. It is ended all the same.
+#[derive(Debug, PartialEq, Eq, Error, Drop)]
+pub enum StayFault {
+    /// Memory was refused, or a thread couldn't be had, before anybody could be served: nothing is written.
+    #[error("no memory or no threads for so many nodes and consoles")]
+    Start,
+    /// The writer failed: a part of the first line is written, or a part of the last one.
+    #[error("a line can't be written")]
+    Write,
+    /// Memory was refused for the last line: the first one is written alone.
+    #[error("out of memory")]
+    Memory,
+}
+
+impl From<AllocError> for StayFault {
+    ghost from_gives = { λ _ fault. fault ≡ AnyStayFault.Memory };
+
+    fn from(_: AllocError) -> StayFault {
+        StayFault::Memory
+    }
+}
+
+impl From<WriteFault> for StayFault {
+    ghost from_gives = { λ _ fault. fault ≡ AnyStayFault.Write };
+
+    fn from(_: WriteFault) -> StayFault {
+        StayFault::Write
     }
 }
 

@@ -12,7 +12,7 @@ mod taking;
 
 pub use console::Cookie;
 pub use entry::Entry;
-pub use faults::ServeFault;
+pub use faults::{ServeFault, StayFault};
 pub use node_threads::{NodeStatus, Numbers, StartFault};
 pub use serving::run_serve;
 pub use staying::{Lookout, Spent, StayOptions, run_stay};

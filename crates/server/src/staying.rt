@@ -1,10 +1,11 @@
 //! Serving a cluster until a console asks for its end.
 ghost use Rattle.std.specs.Prelude.{◌≡◌, None, IfOk, string_bytes};
 ghost use Rattle.node_threads.specs.Openings.{start_refused};
-ghost use Rattle.server.specs.Staying.{StaysCluster, TellsEnd};
+ghost use Rattle.server.specs.Staying.{AreAll, Serve, StaysCluster, StaysRunning, TellsEnd};
 
 mod desk;
 mod door;
+mod first_line;
 mod hall;
 mod lookout;
 mod memory;
@@ -17,7 +18,7 @@ mod worker;
 
 use crate::ending::end_line;
 use crate::entry::Entry;
-use crate::faults::ServeFault;
+use crate::faults::StayFault;
 use crate::serving::{YIELDS, set_of_all};
 use crate::staying::desk::{StayingCluster, stay};
 pub use crate::staying::lookout::{Lookout, Spent};
@@ -31,7 +32,7 @@ use std::io::Write;
 use std::sync::Wait;
 use std::thread::Threads;
 use std::time::Clock;
-use term::NodeName;
+use term::{NodeName, NodeSet};
 use text_lines::tell;
 
 /// Ends a cluster, waits for the threads of its server, and tells what it came to.
@@ -42,7 +43,7 @@ fn end<R, W, E>(
     staff: Staff,
     writer: &mut W,
     errors: &mut E,
-) -> Result<bool, ServeFault>
+) -> Result<bool, StayFault>
 where
     R: Threads + Wait + Clock,
     W: Write,
@@ -58,15 +59,58 @@ where
     Ok(ending.is_ok())
 }
 
+/// Ends a cluster of which nothing can be told, and waits for the threads of its server.
+fn give_up<R, E>(rt: &R, alloc: Global, cluster: StayingCluster, staff: Staff, errors: &mut E)
+where
+    R: Threads + Wait + Clock,
+    E: Write,
+{
+    staff.close(rt);
+    let _ = cluster.end(rt);
+    staff.see_off(rt, alloc, errors);
+}
+
+/// Tells by this line that consoles may come, and serves them until one asks for the end.
+fn serve<R, W, E>(
+    rt: &R,
+    alloc: Global,
+    mut cluster: StayingCluster,
+    nodes: &NodeSet,
+    staff: Staff,
+    listening: &str,
+    writer: &mut W,
+    errors: &mut E,
+) -> Result<bool, StayFault>
+where
+    R: Threads + Wait + Clock + Files,
+    W: Write,
+    E: Write,
+    requires all { AreAll nodes.now cluster }
+    requires served { Serve nodes.now staff.threads.items }
+    ensures { StaysRunning cluster listening.now (W.contents writer.old) (W.contents writer.new) result }
+{
+    match tell(writer, listening.as_bytes()) {
+        Ok(()) => {
+            stay(rt, alloc, &mut cluster, nodes, &staff, errors);
+            end(rt, alloc, cluster, staff, writer, errors)
+        }
+        Err(_) => {
+            give_up(rt, alloc, cluster, staff, errors);
+            Err(StayFault::Write)
+        }
+    }
+}
+
 /// Runs a cluster of threads and serves consoles until one of them asks for the end by the line `shutdown`: those of `cluster` are
 /// joined with each other, and each of `lone` stands for itself. It serves as many connections at once as the options say, in as many
 /// threads, and tells others `error too_many_consoles`; with none at all nobody can ask for the end. Each console has a seat while it
 /// lasts, behind a first line that shows the cookie, if there is one. The nodes keep none of their steps. A connection that couldn't be
-/// taken ends nothing, so `Accept` never comes. What happens is told on `errors`, whose faults are passed over.
+/// taken ends nothing. What happens is told on `errors`, whose faults are passed over.
 ///
-/// At the end connections are ended, calls that wait are answered `closed`, and one line is written that tells what the cluster came
-/// to: `closed` with the number of events, and then the result is true; or `error` with the fault, and then it is false. `Memory`:
-/// memory was refused, or a thread couldn't be had, and no line is written. `Write`: a part of the line is.
+/// Once all its threads are there the line `listening` is written. At the end connections are ended, calls that wait are answered `closed`,
+/// and one line is written that tells what the cluster came to: `closed` with the number of events, and then the result is true; or
+/// `error` with the fault, and then it is false. `Start`: memory was refused, or a thread couldn't be had, and no line is written.
+/// `Write`: a part of the lines is. `Memory`: memory was refused for the last line, so the first one is written alone.
 pub fn run_stay<R, W, E>(
     rt: &R,
     alloc: Global,
@@ -74,37 +118,27 @@ pub fn run_stay<R, W, E>(
     cluster: &[NodeName],
     lone: &[NodeName],
     options: StayOptions,
+    listening: &str,
     writer: &mut W,
     errors: &mut E,
-) -> Result<bool, ServeFault>
+) -> Result<bool, StayFault>
 where
     R: Threads + Wait + Clock + Files + Drop + Copy + Send + Sync + 'static,
     W: Write,
     E: Write,
     requires { start_refused cluster.now lone.now ≡ None }
-    ensures { StaysCluster cluster.now lone.now (W.contents writer.old) (W.contents writer.new) result }
+    ensures { StaysCluster cluster.now lone.now listening.now (W.contents writer.old) (W.contents writer.new) result }
 {
-    let Ok(mut running) = StayingCluster::start(rt, alloc, cluster, lone, OpenGate, YIELDS) else {
-        return Err(ServeFault::Memory);
+    let Ok(running) = StayingCluster::start(rt, alloc, cluster, lone, OpenGate, YIELDS) else {
+        return Err(StayFault::Start);
     };
     let nodes = set_of_all(cluster, lone);
     match Staff::start(rt, alloc, entry, nodes.copy(), options, resident(rt)) {
-        Ok(staff) => {
-            stay(
-                rt,
-                alloc,
-                &mut running,
-                &nodes,
-                &staff.messages,
-                &*staff.memory,
-                errors,
-            );
-            end(rt, alloc, running, staff, writer, errors)
-        }
+        Ok(staff) => serve(rt, alloc, running, &nodes, staff, listening, writer, errors),
         Err(_) => {
             // A cluster that is let go must be ended: its threads end here.
             let _ = running.end(rt);
-            Err(ServeFault::Memory)
+            Err(StayFault::Start)
         }
     }
 }

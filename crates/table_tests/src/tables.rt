@@ -274,10 +274,15 @@ fn change_row<N: Names>(alloc: Global, table: &mut N, is_put: bool) -> bool {
     true
 }
 
+/// Whether a table tells the least of 1,000 names of a process behind each removal of the one before, and none in the end.
+fn finds_the_next<N: Names>(alloc: Global, table: &mut N) -> bool {
+    change_row(alloc, table, true) && change_row(alloc, table, false) && is_least(table, "a.1", "")
+}
+
 #[test]
-fn index_table_finds_the_next_of_a_row(rt: HostRuntime) {
-    let mut table: IndexTable<Global> = Names::empty(rt.alloc());
-    assert!(rt; change_row(rt.alloc(), &mut table, true));
-    assert!(rt; change_row(rt.alloc(), &mut table, false));
-    assert!(rt; is_least(&table, "a.1", ""));
+fn tables_find_the_next_of_a_row(rt: HostRuntime) {
+    let mut list: ListTable<Global> = Names::empty(rt.alloc());
+    let mut index: IndexTable<Global> = Names::empty(rt.alloc());
+    assert!(rt; finds_the_next(rt.alloc(), &mut list));
+    assert!(rt; finds_the_next(rt.alloc(), &mut index));
 }

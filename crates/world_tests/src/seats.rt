@@ -49,6 +49,7 @@ fn word(worked: &Worked) -> &'static str {
         Ok(Outcome::Done(7)) => "seven",
         Ok(Outcome::Aborted) => "aborted",
         Err(TransFault::Set(SeatFault::NoAnswer)) => "no_answer",
+        Err(TransFault::Set(SeatFault::Refused(Refusal::Step(StepFault::Busy(_))))) => "busy",
         Err(TransFault::Del(SeatFault::Refused(Refusal::Step(StepFault::NotLive(_))), 7)) => {
             "not_live"
         }
@@ -85,12 +86,13 @@ fn is_free(world: &mut Cluster, holder: &str, requester: &str) -> bool {
     }
 }
 
-/// Whether work is done under a lock that is free, and not while another has it.
+/// Whether work is done under a lock that is free, and not while another has it; nor while a call of its holder waits.
 fn works_while_free(world: &mut Cluster) -> bool {
     works(world, "a.1", "q", Retries::Times(0), false) == "seven"
         && is_free(world, "a.2", "z")
         && works(world, "a.1", "q", Retries::Times(0), false) == "aborted"
         && works(world, "a.1", "q", Retries::Endless, false) == "no_answer"
+        && works(world, "a.1", "q", Retries::Endless, false) == "busy"
 }
 
 #[test]

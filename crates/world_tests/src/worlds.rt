@@ -13,7 +13,7 @@ use text_lines::Line;
 pub(crate) type Cluster = World<ListTable<Global>>;
 
 /// More deliveries than any of these tests has.
-const ENOUGH: u32 = 1000;
+pub(crate) const ENOUGH: u32 = 1000;
 
 /// A name of as many bytes as a name has at most.
 const LONG: &str = "sixty-four_bytes@4567890123456789012345678901234567890123456789_";
@@ -31,7 +31,7 @@ fn settle(world: &mut Cluster) -> bool {
 }
 
 /// The event that a line of a script asks for, if it asks for one, in a world of first nodes.
-fn event_of(alloc: Global, line: &str) -> Option<WorldEvent> {
+pub(crate) fn event_of(alloc: Global, line: &str) -> Option<WorldEvent> {
     let line = Line::Text(line.as_bytes().to_vec(alloc).ok()?);
     let task = read_task(alloc, &line).ok()?;
     match task {
@@ -60,7 +60,7 @@ fn plays(alloc: Global, world: &mut Cluster, lines: &str) -> bool {
 }
 
 /// A world of these joined nodes, parted by commas, and of the lone node d.
-fn start(alloc: Global, cluster: &str) -> Option<Cluster> {
+pub(crate) fn start(alloc: Global, cluster: &str) -> Option<Cluster> {
     let (Ok(cluster), Ok(lone)) = (parse_nodes(cluster), parse_nodes("d")) else {
         return None;
     };
@@ -201,7 +201,7 @@ const HELD: &str =
     "spawn a, register a x a.1, deliver a c, deliver c a, deliver a a, deliver a b, deliver a a, deliver b a";
 
 /// Whether this node holds the global lock.
-fn is_held(world: &Cluster, node: &Node) -> bool {
+pub(crate) fn is_held(world: &Cluster, node: &Node) -> bool {
     match world.holder() {
         Some(holder) => holder == *node,
         None => false,
@@ -298,18 +298,20 @@ fn is_shown(alloc: Global, refusal: &Refusal, wanted: &str) -> bool {
     is_text(format!(in alloc; "{refusal}"), wanted)
 }
 
+/// Whether that of a node is.
+fn is_shown_of_node(alloc: Global, fault: StepFault, wanted: &str) -> bool {
+    is_shown(alloc, &Refusal::Step(fault), wanted)
+}
+
 #[test]
 fn names_its_refusals(rt: HostRuntime) {
     assert!(rt; is_shown(rt.alloc(), &Refusal::NoSuchNode, "no_such_node"));
     assert!(rt; is_shown(rt.alloc(), &Refusal::NodeLeft, "node_left"));
     assert!(rt; is_shown(rt.alloc(), &Refusal::EmptyLink, "empty_link"));
-    assert!(rt;
-        is_shown(
-            rt.alloc(),
-            &Refusal::Step(StepFault::HoldsLock),
-            "holds_lock"
-        )
-    );
+    assert!(rt; is_shown_of_node(rt.alloc(), StepFault::HoldsLock, "holds_lock"));
+    assert!(rt; is_shown_of_node(rt.alloc(), StepFault::SerialsSpent, "serials_spent"));
+    assert!(rt; is_shown_of_node(rt.alloc(), StepFault::CallsSpent, "calls_spent"));
+    assert!(rt; is_shown_of_node(rt.alloc(), StepFault::Memory, "memory"));
 }
 
 #[test]

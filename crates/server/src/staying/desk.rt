@@ -1,10 +1,14 @@
 //! The desk of a server that stays: it owns the cluster, and does what consoles ask of it.
-ghost use Rattle.std.specs.Prelude.{◌≡◌, OnOk, OnErr};
-ghost use Rattle.server.specs.Staying.{Reseats};
+ghost use Rattle.std.specs.Prelude.{◌≡◌, not, OnOk, OnErr};
+ghost use Rattle.server.specs.Notes.{is_shutdown, shutdown_by};
+ghost use Rattle.server.specs.Staying.{AreAll, Reseats, Serve};
+ghost use Rattle.server.specs.declared.staying.desk.Message.TheVariants.{Tell};
+ghost use Rattle.server.specs.declared.staying.notes.Note.TheVariants.{Parted};
 
 use crate::staying::lookout::Lookout;
 use crate::staying::memory::resident;
-use crate::staying::notes::{Note, Supply, tell_note};
+use crate::staying::notes::{Note, Parting, spent_notes, tell_note};
+use crate::staying::staff::Staff;
 use crossbeam_channel::{Receiver, RecvTimeoutError, Sender};
 use name_table::IndexTable;
 use node_threads::{Cluster, ForgottenLog, ForgottenNotes, OpenGate, Seat, SeatFault};
@@ -12,7 +16,7 @@ use std::alloc::Global;
 use std::fs::Files;
 use std::io::Write;
 use std::sync::Wait;
-use std::sync::atomic::{AtomicU64, Ordering};
+use std::sync::atomic::Ordering;
 use std::time::{Clock, Duration};
 use term::{NodeName, NodeSet};
 
@@ -56,6 +60,20 @@ fn seat_at<R: Wait>(
     }
 }
 
+/// What the desk is told where a console has ended: how, and behind that, that it asked for the end of the server, if it did.
+pub(crate) fn farewell(number: u64, node: NodeName, parting: Parting) -> (Message, Option<Message>)
+    ensures told { result.0 ≡ Tell (Parted number node parting) }
+    ensures asks { result.1 ≡ shutdown_by parting }
+{
+    let asks = parting.asks_for_the_end();
+    let told = Message::Tell(Note::Parted(number, node, parting));
+    if asks {
+        (told, Some(Message::Shutdown))
+    } else {
+        (told, None)
+    }
+}
+
 /// Does what a message asks for: whether the server stays.
 fn heed<R: Wait, E: Write>(
     rt: &R,
@@ -64,7 +82,8 @@ fn heed<R: Wait, E: Write>(
     message: Message,
     errors: &mut E,
 ) -> bool
-    ensures { Reseats cluster.old cluster.new }
+    ensures seats { Reseats cluster.old cluster.new }
+    ensures stays { result ≡ not (is_shutdown message) }
 {
     match message {
         Message::Ask(node, console) => {
@@ -100,6 +119,13 @@ fn attend<R: Wait + Clock, E: Write>(
     }
 }
 
+/// Tells what happened, if anything did.
+fn tell_if<E: Write>(alloc: Global, errors: &mut E, note: Option<Note>) {
+    if let Some(note) = note {
+        tell_note(alloc, errors, &note);
+    }
+}
+
 /// Tells of each node whose numbers are nearly spent, once.
 fn look_round<E: Write>(
     alloc: Global,
@@ -113,42 +139,32 @@ fn look_round<E: Write>(
             continue;
         };
         let spent = lookout.look(&status.node, &status.numbers);
-        if spent.calls {
-            tell_note(
-                alloc,
-                errors,
-                &Note::Spent(Supply::Calls, status.node.copy()),
-            );
-        }
-        if spent.serials {
-            tell_note(
-                alloc,
-                errors,
-                &Note::Spent(Supply::Serials, status.node.copy()),
-            );
-        }
+        let (calls, serials) = spent_notes(&status.node, spent);
+        tell_if(alloc, errors, calls);
+        tell_if(alloc, errors, serials);
     }
 }
 
 /// Does what messages ask for, until one asks for the end. Behind each message, and where none comes for a while, it looks how much memory
-/// the process has, and how far the numbers of these nodes have come.
+/// the process has, and how far the numbers of these nodes have come, which are all of the cluster, and the ones that its staff serves.
 pub(crate) fn stay<R: Wait + Clock + Files, E: Write>(
     rt: &R,
     alloc: Global,
     cluster: &mut StayingCluster,
     nodes: &NodeSet,
-    messages: &Receiver<Message>,
-    memory: &AtomicU64,
+    staff: &Staff,
     errors: &mut E,
 )
+    requires all { AreAll nodes.now cluster.old }
+    requires served { Serve nodes.now staff.now.threads.items }
     ensures { Reseats cluster.old cluster.new }
 {
     let mut lookout = Lookout::new();
     for _ in rt.forever() {
-        if !attend(rt, alloc, cluster, messages, errors) {
+        if !attend(rt, alloc, cluster, &staff.messages, errors) {
             return;
         }
-        memory.store(resident(rt), Ordering::SeqCst);
+        staff.memory.store(resident(rt), Ordering::SeqCst);
         look_round(alloc, cluster, nodes, &mut lookout, errors);
     }
 }

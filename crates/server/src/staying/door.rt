@@ -12,9 +12,10 @@ use libc::net::{POLLIN, poll};
 use libc::types::pollfd;
 use std::io::{ErrorKind, Read, Write};
 use std::net::Shutdown;
-use std::sync::Wait;
+use std::sync::{Arc, Wait};
 use std::thread;
 use std::time::{Clock, Duration, Instant};
+use term::NodeSet;
 
 /// How long it waits for a connection before it looks whether the server ends, in milliseconds.
 const WAIT: i32 = 100;
@@ -80,26 +81,33 @@ fn is_due<R: Clock>(rt: &R, told: &Option<Instant>) -> bool
 }
 
 impl<R: Wait + Clock + Drop + Copy> Duty for Door<R> {
+    ghost served = { λ door. door.office.nodes };
+
+    fn nodes(&self) -> &NodeSet {
+        &self.office.nodes
+    }
+
     /// Takes connections until the server ends. The entry is let go then, so whoever comes too late is told by the system.
-    fn run(self) {
+    fn run(self) -> NodeSet {
         // Where this fails, a client that gives up too early may hold the door up until the next one comes.
         let _ = self.entry.take_at_once();
         let mut number = 0u64;
         let mut told = None;
         for _ in self.office.rt.forever() {
             if self.is_closing() {
-                return;
+                break;
             }
             wait_at(&self.office.rt, &self.entry);
             match self.entry.accept() {
                 Ok(stream) => {
                     number = number.saturating_add(1);
-                    self.let_in(Guest { number, stream });
+                    self.let_in(number, stream);
                 }
                 Err(fault) if is_nothing(fault.kind()) => {}
                 Err(_) => told = self.complain(told),
             }
         }
+        self.office.nodes.copy()
     }
 }
 
@@ -110,14 +118,25 @@ impl<R: Wait + Clock + Drop + Copy> Door<R> {
     }
 
     /// Hands a connection to a worker, or turns it away where none is free.
-    fn let_in(&self, guest: Guest) {
+    fn let_in(&self, number: u64, stream: Stream) {
         if self.office.hall.lock(&self.office.rt).engage() {
-            if self.workers.send(&self.office.rt, guest).is_err() {
-                self.office.hall.lock(&self.office.rt).release();
-            }
+            self.hand_over(number, stream);
         } else {
             self.office.note(Note::TooMany);
-            turn_away(guest.stream);
+            turn_away(stream);
+        }
+    }
+
+    /// Hands a connection to the worker that is engaged for it. The worker is free again where that can't be.
+    fn hand_over(&self, number: u64, stream: Stream) {
+        let Ok(stream) = Arc::new(self.office.alloc, stream) else {
+            self.office.hall.lock(&self.office.rt).release();
+            self.office.note(Note::NotAttached(number));
+            return;
+        };
+        let guest = Guest { number, stream };
+        if self.workers.send(&self.office.rt, guest).is_err() {
+            self.office.hall.lock(&self.office.rt).release();
         }
     }
 

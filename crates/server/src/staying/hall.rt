@@ -1,15 +1,21 @@
 //! What the door, the workers and the desk of a server have in common.
 ghost use Rattle.std.specs.Prelude.{◌≡◌, ◌+◌, ◌-◌, ◌<◌, ◌^◌, length, true, false, not, None, Some, set, replicate, if◌then◌else◌, IfOk, MatchBool};
+ghost use Rattle.server.specs.Notes.{load_of};
 
 use crate::staying::stream::Stream;
+use console::Load;
 use std::alloc::{AllocError, Global};
 use std::net::Shutdown;
+use std::sync::Arc;
+
+/// A connection that its worker and the hall have in common, so that it takes one descriptor.
+pub(crate) type Connection = Arc<Stream, Global>;
 
 /// A connection that was taken, and its number among all that were.
 #[derive(Drop)]
 pub(crate) struct Guest {
     pub(crate) number: u64,
-    pub(crate) stream: Stream,
+    pub(crate) stream: Connection,
 }
 
 /// How many workers are free, and the connections of those that aren't. It lies under a lock.
@@ -18,12 +24,12 @@ pub(crate) struct Hall {
     /// The server ends.
     closing: bool,
     free: u32,
-    /// A handle of the connection that each worker serves.
-    handles: Vec<Option<Stream>>,
+    /// The connection that each worker serves.
+    handles: Vec<Option<Connection>>,
 }
 
 /// No handles, of so many workers.
-fn no_handles(alloc: Global, workers: u32) -> Result<Vec<Option<Stream>>, AllocError>
+fn no_handles(alloc: Global, workers: u32) -> Result<Vec<Option<Connection>>, AllocError>
     ensures { IfOk result (λ handles. handles.items ≡ replicate workers None) }
 {
     let mut handles = Vec::new(alloc);
@@ -34,7 +40,7 @@ fn no_handles(alloc: Global, workers: u32) -> Result<Vec<Option<Stream>>, AllocE
 }
 
 /// A place has this handle, or none. Where there is no such place nothing is changed.
-fn put(handles: &mut Vec<Option<Stream>>, worker: usize, handle: Option<Stream>)
+fn put(handles: &mut Vec<Option<Connection>>, worker: usize, handle: Option<Connection>)
     ensures { handles.new.items ≡ set handles.old.items worker handle }
 {
     if worker < handles.len() {
@@ -71,10 +77,20 @@ impl Hall {
     }
 
     /// How many workers aren't free: so many consoles are served.
-    pub(crate) fn served(&self) -> u64
+    fn served(&self) -> u64
         ensures { result ≡ length self.now.handles.items - self.now.free }
     {
         (self.handles.len() as u64).saturating_sub(u64::from(self.free))
+    }
+
+    /// What the server bears, whose process has so much memory.
+    pub(crate) fn load(&self, memory: u64) -> Load
+        ensures { result ≡ load_of (length self.now.handles.items - self.now.free) memory }
+    {
+        Load {
+            consoles: self.served(),
+            memory,
+        }
     }
 
     /// The worker that was to take a connection is free again.
@@ -87,7 +103,7 @@ impl Hall {
     }
 
     /// A worker begins to serve the connection of this handle. Not where the server ends.
-    pub(crate) fn enter(&mut self, worker: usize, handle: Stream) -> bool
+    pub(crate) fn enter(&mut self, worker: usize, handle: Connection) -> bool
         ensures closing { self.new.closing ≡ self.old.closing }
         ensures free { self.new.free ≡ self.old.free }
         ensures entered { result ≡ not self.old.closing }
@@ -134,7 +150,7 @@ impl Hall {
 }
 
 /// Ends these connections in one or both directions. One that can't be ended so has ended already.
-fn shut_all(handles: &[Option<Stream>], how: Shutdown) {
+fn shut_all(handles: &[Option<Connection>], how: Shutdown) {
     for place in handles {
         if let Some(handle) = place {
             let _ = handle.shutdown(how);

@@ -1,8 +1,10 @@
 //! What a server that stays tells of what happens.
 ghost use Rattle.std.specs.Prelude.{◌≡◌, ◌++◌, IfOk, OnOk, string_bytes};
 ghost use Rattle.console.specs.Printing.{ended};
-ghost use Rattle.server.specs.Notes.{asks_for_the_end, note_text, parting_of, parting_word};
+ghost use Rattle.server.specs.Notes.{asks_for_the_end, note_if, note_text, parting_of, parting_word};
+ghost use Rattle.server.specs.declared.staying.notes.Supply.TheVariants.{Calls, Serials};
 
+use crate::staying::lookout::Spent;
 use console::{ConsoleEnd, ConsoleFault};
 use std::alloc::{AllocError, Global};
 use std::fmt::Write as _;
@@ -95,6 +97,27 @@ impl Parting {
             Parting::Memory => "memory",
         }
     }
+}
+
+/// What is told of these numbers of a node, where they are nearly spent.
+fn spent_note(spent: bool, supply: Supply, node: &Node) -> Option<Note>
+    ensures { result ≡ note_if spent supply node.now }
+{
+    if spent {
+        Some(Note::Spent(supply, node.copy()))
+    } else {
+        None
+    }
+}
+
+/// What is told of a node whose numbers are nearly spent: of its calls, and of its serials.
+pub(crate) fn spent_notes(node: &Node, spent: Spent) -> (Option<Note>, Option<Note>)
+    ensures calls { result.0 ≡ note_if spent.calls Calls node.now }
+    ensures serials { result.1 ≡ note_if spent.serials Serials node.now }
+{
+    let calls = spent_note(spent.calls, Supply::Calls, node);
+    let serials = spent_note(spent.serials, Supply::Serials, node);
+    (calls, serials)
 }
 
 /// Puts what is told behind a text.

@@ -61,23 +61,42 @@ impl<R: Wait + Drop + Copy> Office<R> {
         self.say(Message::Tell(note));
     }
 
+    /// What the desk answered who asked for a seat at the node of this name. Of what comes over a channel no more is known than its type
+    /// says, so it is looked at whether the seat is of that node: one of another, which the desk never sends, goes back.
+    fn checked(&self, node: &NodeName, answer: SeatAnswer) -> SeatAnswer
+        ensures { IfOk result (λ seat. seat.node ≡ node.now) }
+    {
+        let seat = answer?;
+        if seat.node().is_first_of(node) {
+            return Ok(seat);
+        }
+        self.say(Message::Back(seat));
+        Err(SeatFault::NoSuchNode)
+    }
+
     /// Asks the desk for a seat at the node of this name, and waits for it.
-    pub(crate) fn seat(&self, node: &NodeName) -> SeatAnswer {
+    pub(crate) fn seat(&self, node: &NodeName) -> SeatAnswer
+        ensures { IfOk result (λ seat. seat.node ≡ node.now) }
+    {
         let Ok((desk, seats)) = bounded(self.alloc, 1) else {
             return Err(SeatFault::Memory);
         };
         self.say(Message::Ask(node.copy(), desk));
         match seats.recv(&self.rt) {
-            Ok(answer) => answer,
+            Ok(answer) => self.checked(node, answer),
             Err(_) => Err(SeatFault::Closed),
         }
     }
 }
 
 impl<R: Wait + Drop + Copy> House<R> for Office<R> {
+    ghost use Rattle.std.specs.Prelude.{⊤};
+
+    // No clause says what lies under a lock, nor what an atomic number is.
+    ghost bears = { λ _ _. ⊤ };
+
     fn load(&self, rt: &R) -> Load {
-        let consoles = self.hall.lock(rt).served();
         let memory = self.memory.load(Ordering::SeqCst);
-        Load { consoles, memory }
+        self.hall.lock(rt).load(memory)
     }
 }

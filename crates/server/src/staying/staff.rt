@@ -1,5 +1,7 @@
 //! The threads of a server that stays.
 ghost use denote.Param.Send.{IsSend, IsSync};
+ghost use Rattle.std.specs.Prelude.{◌≡◌, ◌+◌, ℕ, List, length, IfOk, OnOk};
+ghost use Rattle.server.specs.Staying.{Serve, Starts};
 
 use crate::entry::Entry;
 use crate::staying::desk::{Message, dismiss};
@@ -11,10 +13,11 @@ use crate::staying::worker::Worker;
 use crossbeam_channel::{Receiver, RecvTimeoutError, Sender, bounded};
 use std::alloc::{AllocError, Global};
 use std::io::Write;
+use std::snapshot::Snapshot;
 use std::sync::atomic::AtomicU64;
 use std::sync::{Arc, Mutex, Wait};
 use std::thread;
-use std::thread::{JoinHandle, Threads};
+use std::thread::{Promise, PromisedHandle, Threads};
 use std::time::{Clock, Duration};
 use term::NodeSet;
 
@@ -31,44 +34,81 @@ pub(crate) struct Staff {
     /// How many bytes of memory the process has, which the desk tells the workers.
     pub(crate) memory: Arc<AtomicU64, Global>,
     hall: Arc<Mutex<Hall>, Global>,
-    threads: Vec<JoinHandle<()>>,
+    threads: Vec<DutyThread>,
 }
+
+/// That a thread served these nodes, and gives them back as it ends.
+#[derive(Drop)]
+pub(crate) struct Posted(pub(crate) Snapshot<NodeSet>);
+
+impl Promise<NodeSet> for Posted {
+    ghost use Rattle.std.specs.Prelude.{◌≡◌};
+
+    ghost kept_by = { λ promise nodes. nodes ≡ promise.0.value };
+}
+
+/// A thread of a server, which gives the nodes that it served.
+type DutyThread = PromisedHandle<NodeSet, Posted>;
 
 /// What a thread does until it ends.
 pub(crate) trait Duty: Drop {
-    fn run(self);
+    /// For which nodes it does so.
+    ghost served: { Self → List ℕ };
+
+    /// For which nodes it does so.
+    fn nodes(&self) -> &NodeSet
+        ensures { result.now ≡ served self.now };
+
+    /// Does so: for which nodes it was.
+    fn run(self) -> NodeSet
+        ensures { result ≡ served self };
 }
 
 /// Starts a thread.
-fn start<R: Threads, D: Duty + Send + 'static>(
-    rt: &R,
-    duty: D,
-) -> Result<JoinHandle<()>, AllocError> {
-    let handle = thread::spawn(
+fn start<R: Threads, D: Duty + Send + 'static>(rt: &R, duty: D) -> Result<DutyThread, AllocError>
+    ensures { IfOk result (λ thread. thread.promise.0.value ≡ D.served duty) }
+{
+    let promise = Posted(Snapshot::of(duty.nodes()));
+    let handle = thread::spawn_with(
         rt,
-        move || -> ()
+        promise,
+        move || -> NodeSet
             requires sends { IsSend D.row }
+            ensures { result ≡ D.served duty }
         { duty.run() },
     )?;
     Ok(handle)
+}
+
+/// Starts a thread, and puts it behind these.
+fn post<R: Threads, D: Duty + Send + 'static>(
+    rt: &R,
+    duty: D,
+    threads: &mut Vec<DutyThread>,
+) -> Result<(), AllocError>
+    ensures { OnOk result (Starts (D.served duty) 1 threads.old.items threads.new.items) }
+{
+    threads.reserve(1)?;
+    threads.push_reserved(start(rt, duty)?);
+    Ok(())
 }
 
 /// Starts so many workers.
 fn start_workers<R>(
     office: &Office<R>,
     workers: u32,
-    threads: &mut Vec<JoinHandle<()>>,
+    threads: &mut Vec<DutyThread>,
 ) -> Result<(), AllocError>
 where
     R: Threads + Wait + Clock + Drop + Copy + Send + Sync + 'static,
+    ensures { OnOk result (Starts office.now.nodes workers threads.old.items threads.new.items) }
 {
     for place in 0..workers {
-        threads.reserve(1)?;
         let worker = Worker {
             office: office.copy()?,
             place: place as usize,
         };
-        threads.push_reserved(start(&office.rt, worker)?);
+        post(&office.rt, worker, threads)?;
     }
     Ok(())
 }
@@ -79,26 +119,25 @@ fn start_all<R>(
     entry: Entry,
     guests: Sender<Guest>,
     workers: u32,
-    threads: &mut Vec<JoinHandle<()>>,
+    threads: &mut Vec<DutyThread>,
 ) -> Result<(), AllocError>
 where
     R: Threads + Wait + Clock + Drop + Copy + Send + Sync + 'static,
+    ensures { OnOk result (Starts office.nodes (workers + 1) threads.old.items threads.new.items) }
 {
     start_workers(&office, workers, threads)?;
-    threads.reserve(1)?;
     let rt = office.rt;
     let door = Door {
         office,
         entry,
         workers: guests,
     };
-    threads.push_reserved(start(&rt, door)?);
-    Ok(())
+    post(&rt, door, threads)
 }
 
 impl Staff {
-    /// Starts the workers of so many consoles, and the door of this entry. So much memory the process has then. Where a thread can't be had,
-    /// those that were started have ended.
+    /// Starts the workers of so many consoles, each of which serves these nodes, and the door of this entry. So much memory the process has
+    /// then. Where a thread can't be had, those that were started have ended.
     pub(crate) fn start<R>(
         rt: &R,
         alloc: Global,
@@ -109,6 +148,8 @@ impl Staff {
     ) -> Result<Self, AllocError>
     where
         R: Threads + Wait + Clock + Drop + Copy + Send + Sync + 'static,
+        ensures served { IfOk result (λ staff. Serve nodes staff.threads.items) }
+        ensures many { IfOk result (λ staff. length staff.threads.items ≡ options.consoles + 1) }
     {
         let workers = options.consoles;
         // No message takes memory, so none is lost. No more connections wait than workers were engaged.
@@ -165,8 +206,8 @@ impl Staff {
 }
 
 /// Waits until these threads have ended.
-fn join_all<R: Threads>(rt: &R, threads: Vec<JoinHandle<()>>) {
+fn join_all<R: Threads>(rt: &R, threads: Vec<DutyThread>) {
     for thread in threads {
-        thread.join(rt);
+        let _ = thread.join(rt);
     }
 }

@@ -1,6 +1,8 @@
 //! The connection of a console.
-ghost use Rattle.std.specs.Prelude.{IfOk};
+ghost use Rattle.std.specs.Prelude.{◌≡◌, IfOk};
 ghost use Rattle.std.specs.Counts.{IsPrefixLen};
+ghost use Rattle.std.specs.Int.{w16, cast_unsigned};
+ghost use Rattle.server.specs.Streams.{peer_of};
 
 use console::{Client, Peer};
 use libc::net::{POLLERR, POLLHUP, POLLNVAL, POLLRDHUP, poll};
@@ -20,14 +22,6 @@ pub(crate) enum Stream {
 }
 
 impl Stream {
-    /// Another handle of it.
-    pub(crate) fn try_clone(&self) -> io::Result<Stream> {
-        match self {
-            Stream::Tcp(stream) => Ok(Stream::Tcp(stream.try_clone()?)),
-            Stream::Unix(stream) => Ok(Stream::Unix(stream.try_clone()?)),
-        }
-    }
-
     /// Has each answer sent at once, also where the one before isn't acknowledged yet. A socket of the file system does so anyway.
     pub(crate) fn send_at_once(&self) -> io::Result<()> {
         match self {
@@ -69,7 +63,7 @@ impl Stream {
     }
 
     /// Reads what has come, or waits for it.
-    fn receive(&self, buf: &mut [u8]) -> io::Result<usize>
+    pub(crate) fn receive(&self, buf: &mut [u8]) -> io::Result<usize>
         ensures { IfOk result (λ count. IsPrefixLen count buf.new) }
     {
         match self {
@@ -118,7 +112,9 @@ impl Write for &Stream {
 }
 
 /// What the system tells of a connection, by the events that it reports.
-fn peer_by(events: i16) -> Peer {
+fn peer_by(events: i16) -> Peer
+    ensures { result ≡ peer_of (cast_unsigned w16 events) }
+{
     if events & (POLLERR | POLLHUP | POLLNVAL) != 0 {
         Peer::Gone
     } else if events & POLLRDHUP != 0 {

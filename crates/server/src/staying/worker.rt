@@ -2,20 +2,23 @@
 ghost use Rattle.std.specs.Io.Buffered.{reader_remaining};
 ghost use Rattle.server.specs.Visits.{IsHosted, Visits};
 
-use crate::staying::desk::Message;
-use crate::staying::hall::Guest;
+use crate::staying::desk::{Message, farewell};
+use crate::staying::first_line::FirstLine;
+use crate::staying::hall::{Connection, Guest};
 use crate::staying::notes::{Note, Parting};
 use crate::staying::office::Office;
 use crate::staying::staff::Duty;
 use crate::staying::stream::Stream;
 use console::{greet, refuse_seat, serve_staying};
 use std::alloc::Global;
-use std::io::{BufReader, Read, Write};
-use std::sync::Wait;
+use std::io::{BufReader, BufWriter, Read, Write};
+use std::sync::atomic::{AtomicBool, Ordering};
+use std::sync::{Arc, Wait};
 use std::time::{Clock, Duration};
-use term::NodeName;
+use term::{NodeName, NodeSet};
+use text_lines::hand_on;
 
-/// For how many seconds a console may wait with its first line, or with the reading of an answer.
+/// For how many seconds an answer waits for its reader.
 const PATIENCE: u64 = 10;
 
 /// Serves connections, one after another, each at a seat that the desk gives it.
@@ -27,14 +30,21 @@ pub(crate) struct Worker<R: Wait + Clock + Drop + Copy> {
 }
 
 impl<R: Wait + Clock + Drop + Copy> Duty for Worker<R> {
+    ghost served = { λ worker. worker.office.nodes };
+
+    fn nodes(&self) -> &NodeSet {
+        &self.office.nodes
+    }
+
     /// Serves connections until none comes any more.
-    fn run(self) {
+    fn run(self) -> NodeSet {
         for _ in self.office.rt.forever() {
             match self.office.guests.recv(&self.office.rt) {
                 Ok(guest) => self.host(guest),
-                Err(_) => return,
+                Err(_) => break,
             }
         }
+        self.office.nodes.copy()
     }
 }
 
@@ -52,8 +62,8 @@ impl<R: Wait + Clock + Drop + Copy> Worker<R> {
     }
 
     /// Whether the connection is to be served. It isn't where the server ends, or couldn't end it.
-    fn enters(&self, stream: &Stream) -> bool {
-        match stream.try_clone() {
+    fn enters(&self, stream: &Connection) -> bool {
+        match Arc::try_clone(stream) {
             Ok(handle) => self
                 .office
                 .hall
@@ -63,16 +73,22 @@ impl<R: Wait + Clock + Drop + Copy> Worker<R> {
         }
     }
 
-    /// Serves the console at the other end of a connection. Each answer is sent at once, and the console may wait with its first line,
-    /// and with the reading of an answer, for a while and no longer. A connection that can't be told so is served all the same.
+    /// Serves the console at the other end of a connection. Answers are sent once the console has nothing further at hand, and it may wait
+    /// with its first line, and with the reading of an answer, for a while and no longer. A connection that can't be told so is
+    /// served all the same.
     fn attend(&self, number: u64, stream: &Stream) {
         let _ = stream.send_at_once();
-        let _ = stream.set_read_timeout(Some(Duration::from_secs(PATIENCE)));
         let _ = stream.set_write_timeout(Some(Duration::from_secs(PATIENCE)));
-        let mut socket = stream;
-        match BufReader::new(self.office.alloc, stream) {
-            Ok(mut reader) => self.talk(number, &mut reader, &mut socket, stream),
-            Err(_) => self.office.note(Note::NotAttached(number)),
+        let is_attached = AtomicBool::new(false);
+        let input = FirstLine::of(self.office.rt, stream, &is_attached);
+        let alloc = self.office.alloc;
+        match (BufReader::new(alloc, input), BufWriter::new(alloc, stream)) {
+            (Ok(mut reader), Ok(mut writer)) => {
+                self.talk(number, &mut reader, &mut writer, stream, &is_attached);
+                // Of a console that ended by a fault answers may still be held back.
+                let _ = hand_on(&mut writer);
+            }
+            _ => self.office.note(Note::NotAttached(number)),
         }
     }
 
@@ -84,6 +100,7 @@ impl<R: Wait + Clock + Drop + Copy> Worker<R> {
         reader: &mut BufReader<I, Global>,
         writer: &mut O,
         stream: &Stream,
+        is_attached: &AtomicBool,
     )
         ensures { Visits self.now.office.options.value.cookie self.now.office.nodes (reader_remaining I.remaining reader.old)
             (reader_remaining I.remaining reader.new) (O.contents writer.old) (O.contents writer.new) }
@@ -97,6 +114,7 @@ impl<R: Wait + Clock + Drop + Copy> Worker<R> {
         } = &self.office;
         match greet(rt, *alloc, reader, writer, nodes, options.cookie.as_ref()) {
             Ok(Some(node)) => {
+                is_attached.store(true, Ordering::SeqCst);
                 let _ = stream.set_read_timeout(options.silence());
                 let parting = self.serve(reader, writer, stream, &node);
                 self.part(number, node, parting);
@@ -115,7 +133,7 @@ impl<R: Wait + Clock + Drop + Copy> Worker<R> {
         stream: &Stream,
         node: &NodeName,
     ) -> Parting
-        ensures { IsHosted (reader_remaining I.remaining reader.old) (reader_remaining I.remaining reader.new)
+        ensures { IsHosted node.now (reader_remaining I.remaining reader.old) (reader_remaining I.remaining reader.new)
             (O.contents writer.old) (O.contents writer.new) result }
     {
         match self.office.seat(node) {
@@ -142,10 +160,10 @@ impl<R: Wait + Clock + Drop + Copy> Worker<R> {
 
     /// Tells the desk how a console has ended, and that it asked for the end of the server, if it did.
     fn part(&self, number: u64, node: NodeName, parting: Parting) {
-        let asks = parting.asks_for_the_end();
-        self.office.note(Note::Parted(number, node, parting));
-        if asks {
-            self.office.say(Message::Shutdown);
+        let (told, shutdown) = farewell(number, node, parting);
+        self.office.say(told);
+        if let Some(shutdown) = shutdown {
+            self.office.say(shutdown);
         }
     }
 }

@@ -1,46 +1,23 @@
 //! Nodes that leave, and calls that end so.
-use super::holders::lock;
-use super::names::{name_process, register};
-use super::{Small, spawns};
-use node_threads::{Call, Nodes, Reply, Retries, Seat, SeatFault, StepFault};
+use crate::calls::{is_refused, is_told, names_process, register, set, spawns};
+use crate::cast::{Cast, process_of};
+use crate::plays::Small;
+use node_threads::{Call, Reply, Retries, Seat, SeatFault, StepFault};
 use std::sync::Wait;
 use std::thread;
 use std::thread::{Threads, join};
 use std::time::Clock;
-use term::{LockId, Pid, parse_name, parse_node_name, parse_pid};
+use term::{LockId, Name, NodeName, Pid};
 
 /// How often a seat asks at most.
 const TRIES: u32 = 1_000_000;
 
-/// What ends the wait of a lock call.
-#[derive(Clone, Copy)]
-pub(super) enum Ending {
-    /// The holder exits.
-    Exit,
-    /// The node leaves, by a seat.
-    Leave,
-    /// The node leaves, by the cluster.
-    ClusterLeave,
-}
-
-/// The call of a process for a lock.
-pub(super) fn set(holder: &Pid, id: &LockId, retries: Retries) -> Call {
-    Call::SetLock(holder.copy(), id.copy(), Nodes::All, retries)
-}
-
-/// The process asks for the lock, once it isn't busy, and is granted none. Whether its wait ended as it is to.
-fn waits<R: Wait + Clock>(
-    rt: &R,
-    seat: &mut Seat,
-    holder: &Pid,
-    id: &LockId,
-    ending: Ending,
-) -> bool {
+/// The process asks for the lock, once it isn't busy, and is granted none. Whether its wait ended since its node left.
+fn waits<R: Wait + Clock>(rt: &R, seat: &mut Seat, holder: &Pid, id: &LockId) -> bool {
     for _ in 0..TRIES {
         match seat.call(rt, set(holder, id, Retries::Endless)) {
             Err(SeatFault::Step(StepFault::Busy(_))) => thread::yield_now(),
-            Err(SeatFault::Step(StepFault::NotLive(_))) => return matches!(ending, Ending::Exit),
-            Err(SeatFault::NodeLeft) => return !matches!(ending, Ending::Exit),
+            Err(SeatFault::NodeLeft) => return true,
             _ => return false,
         }
     }
@@ -59,117 +36,74 @@ fn until_busy<R: Wait + Clock>(rt: &R, seat: &mut Seat, holder: &Pid, id: &LockI
     false
 }
 
-/// The node of a seat leaves, by the cluster. Whether it does so but once.
-fn leaves<R: Wait + Clock>(rt: &R, cluster: &mut Small, seat: &Seat) -> bool {
-    let left = cluster.leave(rt, seat.node().name());
-    let again = cluster.leave(rt, seat.node().name());
-    left == Ok(()) && again == Err(SeatFault::NodeLeft)
+/// The node of a seat leaves, by the cluster. Whether it does so but once, and no call is taken behind that.
+fn leaves<R: Wait + Clock>(rt: &R, cluster: &mut Small, seat: &mut Seat, node: &NodeName) -> bool {
+    cluster.leave(rt, node) == Ok(())
+        && cluster.leave(rt, node) == Err(SeatFault::NodeLeft)
+        && is_refused(rt, seat, Call::Spawn, SeatFault::NodeLeft)
 }
 
-/// Ends the wait of a process. Whether no call is taken behind a leave.
-fn ends<R: Wait + Clock>(
-    rt: &R,
-    cluster: &mut Small,
-    seat: &mut Seat,
-    holder: &Pid,
-    ending: Ending,
-) -> bool {
-    let ended = match ending {
-        Ending::Exit => return seat.exit(rt, holder) == Ok(()),
-        Ending::Leave => seat.leave(rt) == Ok(()),
-        Ending::ClusterLeave => leaves(rt, cluster, seat),
-    };
-    ended && seat.call(rt, Call::Spawn) == Err(SeatFault::NodeLeft)
-}
-
-/// One process has a lock for which another waits, until that exits or its node leaves.
+/// The second process of a node waits for a lock, in a thread of its own, until the node leaves.
 fn waits_in_vain<R: Threads + Wait + Clock + Sync>(
     rt: &R,
     cluster: &mut Small,
     one: &mut Seat,
     two: &mut Seat,
-    ending: Ending,
+    waiter: &Pid,
+    id: &LockId,
 ) -> bool {
-    let (Ok(first), Ok(second)) = (parse_pid("b.1"), parse_pid("b.2")) else {
-        return false;
-    };
-    let (Some(ours), Some(theirs)) = (lock("p"), lock("q")) else {
-        return false;
-    };
-    let spawned = spawns(rt, one) && spawns(rt, one);
-    let granted = one.call(rt, set(&first, &ours, Retries::Endless)) == Ok(Reply::True);
-    let (waited, ended) = join(
+    let (waited, left) = join(
         rt,
-        || waits(rt, two, &second, &theirs, ending),
-        || {
-            let is_busy = until_busy(rt, one, &second, &theirs);
-            ends(rt, cluster, one, &second, ending) && is_busy
-        },
+        || waits(rt, two, waiter, id),
+        || until_busy(rt, one, waiter, id) && leaves(rt, cluster, one, waiter.node.name()),
     );
-    spawned && granted && waited && ended
+    waited && left
 }
 
-/// A call waits in vain, at the second of two seats.
+/// One process of a node has a lock for which another waits, until the node leaves.
 pub(super) fn wait<R: Threads + Wait + Clock + Sync>(
-    rt: &R,
-    cluster: &mut Small,
-    seats: &mut [Seat],
-    ending: Ending,
-) -> bool {
-    match seats {
-        [one, two] => waits_in_vain(rt, cluster, one, two, ending),
-        _ => false,
-    }
-}
-
-/// Whether a call was answered so, or its node had left.
-fn is_answered_or_left(found: &Result<Reply, SeatFault>, reply: &Reply) -> bool {
-    match found {
-        Ok(given) => given == reply,
-        Err(fault) => matches!(fault, SeatFault::NodeLeft),
-    }
-}
-
-/// Spawns a process and registers a name for it. Whether each was done, or the node had left.
-fn named_or_left<R: Wait + Clock>(rt: &R, seat: &mut Seat) -> bool {
-    let (Ok(process), Ok(name)) = (parse_pid("a.1"), parse_name("x")) else {
-        return false;
-    };
-    let spawned = seat.call(rt, Call::Spawn);
-    let named = seat.call(rt, register(&name, &process));
-    is_answered_or_left(&spawned, &Reply::Pid(process)) && is_answered_or_left(&named, &Reply::Yes)
-}
-
-/// A name is registered in a thread of its own while its node is asked to leave: that waits behind the hold, where it meets one.
-fn leaves_behind_a_hold<R: Threads + Wait + Clock + Sync>(
     rt: &R,
     cluster: &mut Small,
     one: &mut Seat,
     two: &mut Seat,
+    cast: &Cast,
 ) -> bool {
-    let (Ok(process), Ok(name), Ok(node)) = (
-        parse_pid("b.1"),
-        parse_name("y"),
-        parse_node_name("a"),
-    ) else {
-        return false;
-    };
-    let (fine, left) = join(
-        rt,
-        || named_or_left(rt, one),
-        || cluster.leave(rt, &node) == Ok(()),
-    );
-    fine && left && name_process(rt, two, &process, &name)
+    let (holder, waiter) = (process_of(one, 1), process_of(two, 2));
+    let (ours, theirs) = (cast.lock(&holder.node), cast.lock(&cast.stranger));
+    spawns(rt, one)
+        && spawns(rt, one)
+        && is_told(rt, one, set(&holder, &ours, Retries::Endless), &Reply::True)
+        && waits_in_vain(rt, cluster, one, two, &waiter, &theirs)
 }
 
-/// The node of the first of two seats leaves behind a hold.
+/// Whether a call is answered so, or the node has left.
+fn is_told_or_left<R: Wait + Clock>(rt: &R, seat: &mut Seat, call: Call, reply: &Reply) -> bool {
+    match seat.call(rt, call) {
+        Ok(found) => found == *reply,
+        Err(fault) => fault == SeatFault::NodeLeft,
+    }
+}
+
+/// Spawns a process, which is to be this one, and registers a name for it. Whether each was done, or the node had left.
+fn names_or_left<R: Wait + Clock>(rt: &R, seat: &mut Seat, process: &Pid, name: &Name) -> bool {
+    is_told_or_left(rt, seat, Call::Spawn, &Reply::Pid(process.copy()))
+        && is_told_or_left(rt, seat, register(name, process), &Reply::Yes)
+}
+
+/// A name is registered in a thread of its own while its node is asked to leave: that waits behind the hold, where it meets one. Then
+/// another is at the second of two seats.
 pub(super) fn leave<R: Threads + Wait + Clock + Sync>(
     rt: &R,
     cluster: &mut Small,
-    seats: &mut [Seat],
+    one: &mut Seat,
+    two: &mut Seat,
+    cast: &Cast,
 ) -> bool {
-    match seats {
-        [one, two] => leaves_behind_a_hold(rt, cluster, one, two),
-        _ => false,
-    }
+    let (ours, theirs) = (process_of(one, 1), process_of(two, 1));
+    let (fine, left) = join(
+        rt,
+        || names_or_left(rt, one, &ours, &cast.x),
+        || cluster.leave(rt, ours.node.name()) == Ok(()),
+    );
+    fine && left && names_process(rt, two, &theirs, &cast.y)
 }

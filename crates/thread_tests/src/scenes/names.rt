@@ -1,63 +1,15 @@
 //! Names that are registered and looked up.
-use name_table::Pair;
+use crate::calls::{finds, is_refused, names_process};
+use crate::cast::{Cast, process_of};
 use node_threads::{Call, Reply, Seat, SeatFault};
 use std::sync::Wait;
 use std::time::Clock;
-use term::{Name, Node, Pid, Rule, parse_name, parse_node_name, parse_pid};
-
-/// The call that registers a name for a process under a rule.
-pub(super) fn register_under(name: &Name, owner: &Pid, rule: Rule) -> Call {
-    Call::Register(Pair {
-        name: name.copy(),
-        owner: owner.copy(),
-        rule,
-    })
-}
-
-/// So under the usual rule.
-pub(super) fn register(name: &Name, owner: &Pid) -> Call {
-    register_under(name, owner, Rule::Exit)
-}
-
-/// Spawns a process, which is to be this one, and makes this call, which names it. Whether both was done.
-pub(super) fn spawn_and_name<R: Wait + Clock>(
-    rt: &R,
-    seat: &mut Seat,
-    process: &Pid,
-    call: Call,
-) -> bool {
-    let spawned = seat.call(rt, Call::Spawn);
-    let named = seat.call(rt, call);
-    spawned == Ok(Reply::Pid(process.copy())) && named == Ok(Reply::Yes)
-}
-
-/// Spawns a process, which is to be this one, and registers this name for it. Whether both was done.
-pub(super) fn name_process<R: Wait + Clock>(
-    rt: &R,
-    seat: &mut Seat,
-    process: &Pid,
-    name: &Name,
-) -> bool {
-    spawn_and_name(rt, seat, process, register(name, process))
-}
-
-/// Whether a look-up finds this owner of a name.
-pub(super) fn finds(seat: &mut Seat, name: &Name, owner: &Pid) -> bool {
-    match seat.whereis(name) {
-        Ok(Some(found)) => found == *owner,
-        _ => false,
-    }
-}
+use term::{Name, Node, Pid};
 
 /// Registers a process at its only node, and looks the name up.
-pub(super) fn first<R: Wait + Clock>(rt: &R, seats: &mut [Seat]) -> bool {
-    let (Ok(process), Ok(name)) = (parse_pid("a.1"), parse_name("x")) else {
-        return false;
-    };
-    match seats.first_mut() {
-        Some(seat) => name_process(rt, seat, &process, &name) && finds(seat, &name, &process),
-        None => false,
-    }
+pub(super) fn first<R: Wait + Clock>(rt: &R, seat: &mut Seat, cast: &Cast) -> bool {
+    let process = process_of(seat, 1);
+    names_process(rt, seat, &process, &cast.x) && finds(seat, &cast.x, &process)
 }
 
 /// Whether a seat is told these two names alone, in this order.
@@ -71,22 +23,26 @@ fn tells<R: Wait + Clock>(rt: &R, seat: &mut Seat, first: &Name, second: &Name) 
     }
 }
 
+/// Whether look-ups find the owners of both names.
+fn finds_both(seat: &mut Seat, cast: &Cast, ours: &Pid, theirs: &Pid) -> bool {
+    finds(seat, &cast.x, ours) && finds(seat, &cast.y, theirs)
+}
+
+/// Whether no node of another cluster can be joined.
+fn knows_no_stranger<R: Wait + Clock>(rt: &R, seat: &mut Seat, stranger: &Node) -> bool {
+    let join = Call::Join(stranger.copy());
+    is_refused(rt, seat, join, SeatFault::NoSuchNode)
+}
+
 /// Names a process at each of two nodes, and looks both up at both.
-pub(super) fn both<R: Wait + Clock>(rt: &R, seats: &mut [Seat]) -> bool {
-    let (Ok(ours), Ok(theirs)) = (parse_pid("a.1"), parse_pid("b.1")) else {
-        return false;
-    };
-    let (Ok(x), Ok(y), Ok(stranger)) = (parse_name("x"), parse_name("y"), parse_node_name("z"))
-    else {
-        return false;
-    };
-    let [one, two] = seats else {
-        return false;
-    };
-    let named = name_process(rt, one, &ours, &x) && name_process(rt, two, &theirs, &y);
-    let found = finds(one, &x, &ours) && finds(one, &y, &theirs);
-    let found_there = finds(two, &x, &ours) && finds(two, &y, &theirs);
-    let told = tells(rt, two, &x, &y);
-    let refused = one.call(rt, Call::Join(Node::first(stranger))) == Err(SeatFault::NoSuchNode);
-    named && found && found_there && told && refused && one.number() == 0 && two.number() == 1
+pub(super) fn both<R: Wait + Clock>(rt: &R, one: &mut Seat, two: &mut Seat, cast: &Cast) -> bool {
+    let (ours, theirs) = (process_of(one, 1), process_of(two, 1));
+    names_process(rt, one, &ours, &cast.x)
+        && names_process(rt, two, &theirs, &cast.y)
+        && finds_both(one, cast, &ours, &theirs)
+        && finds_both(two, cast, &ours, &theirs)
+        && tells(rt, two, &cast.x, &cast.y)
+        && knows_no_stranger(rt, one, &cast.stranger)
+        && one.number() == 0
+        && two.number() == 1
 }

@@ -1,11 +1,13 @@
 //! How threads that sleep are woken.
+use crate::calls::is_told;
+use crate::cast::Cast;
 use node_threads::{Call, Reply, Seat};
 use std::sync::Wait;
 use std::time::{Clock, Duration, Instant};
-use term::{Name, parse_name};
+use term::Name;
 
 /// How often a name is looked up.
-pub(super) const LOOK_UPS: u64 = 200;
+const LOOK_UPS: u64 = 200;
 
 /// How many seconds that may take at most. A sleep that no ring ends lasts for a tenth of one, so where one side rings no bell it takes
 /// twenty.
@@ -31,7 +33,7 @@ fn linger<R: Clock>(rt: &R) {
 fn finds_nobody<R: Wait + Clock>(rt: &R, seat: &mut Seat, name: &Name) -> bool {
     for _ in 0..LOOK_UPS {
         linger(rt);
-        if seat.call(rt, Call::Whereis(name.copy())) != Ok(Reply::Undefined) {
+        if !is_told(rt, seat, Call::Whereis(name.copy()), &Reply::Undefined) {
             return false;
         }
     }
@@ -39,14 +41,11 @@ fn finds_nobody<R: Wait + Clock>(rt: &R, seat: &mut Seat, name: &Name) -> bool {
 }
 
 /// Looks a name up that nobody has, in time.
-pub(super) fn look_ups<R: Wait + Clock>(rt: &R, seats: &mut [Seat]) -> bool {
-    let (Ok(name), Ok(start)) = (parse_name("x"), Instant::now(rt)) else {
+pub(super) fn look_ups<R: Wait + Clock>(rt: &R, seat: &mut Seat, cast: &Cast) -> bool {
+    let Ok(start) = Instant::now(rt) else {
         return false;
     };
-    let Some(seat) = seats.first_mut() else {
-        return false;
-    };
-    let found = finds_nobody(rt, seat, &name);
+    let found = finds_nobody(rt, seat, &cast.x);
     match start.elapsed(rt) {
         Ok(taken) => found && taken < Duration::from_secs(MOST_SECONDS),
         Err(_) => false,

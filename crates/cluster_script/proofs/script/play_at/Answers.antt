@@ -4,6 +4,7 @@ use Rattle.protocol_model.specs.Event.{NoSuchNode}
 use Rattle.protocol_model.specs.NamedEvents.{At, Plain, Play}
 use Rattle.term.specs.Nodes.{text_in}
 use Rattle.command_lines.specs.Events.{own_event_of}
+use Rattle.command_lines.specs.Grammar.{Scripted}
 use Rattle.text_lines.specs.declared.faults.WriteFault.{WriteFault}
 use Rattle.cluster_script.specs.Played.{PlaysAsked}
 use Rattle.cluster_script.proofs.Meaning.{nobody, PlaysAsked-named}
@@ -17,7 +18,7 @@ returns-in_err-write_text g c =
     let b = g.W.Write.contents c.write_text.new.writer in
     let e = At (text_in c.args.name.now) (own_event_of c.args.event) in
     let p = err_from_is_err_and c.from_residual.result c.from_residual.ensures.1 in
-    subst (λ (r : Result Bool WriteFault). PlaysAsked (Ok (Play e)) h h a b r) (sym p.1)
+    subst (λ (r : Result Bool WriteFault). PlaysAsked (Ok (Scripted (Play e))) h h a b r) (sym p.1)
     (event-unwritten h h e refl refl (Some (Plain NoSuchNode))
     (nobody h (text_in c.args.name.now) (own_event_of c.args.event) (sym c.in_default.ensures.here)) a b
     c.in_err-write_text.ensures p.0)

@@ -10,6 +10,7 @@ use Rattle.cluster_script.specs.Script.{Plays}
 use Rattle.cluster_script.specs.Played.{PlaysAsked, okay_text}
 use Rattle.command_lines.specs.NodeEventsSeen.{answer_of}
 use Rattle.command_lines.specs.declared.Answer.{Answer}
+use Rattle.command_lines.specs.Grammar.{Scripted}
 use Rattle.command_lines.specs.Printing.{answers_text}
 use Rattle.text_lines.specs.Writing.{AppendsPart}
 use Rattle.text_lines.proofs.Written.{AppendsPart-behind, AppendsPart-more}
@@ -22,7 +23,7 @@ pub returns-in_err-write_accepted-in-Ok : goal.returns-in_err-write_accepted-in-
 returns-in_err-write_accepted-in-Ok g c =
     let p = err_from_is_err_and c.from_residual.result c.from_residual.ensures.1 in
     let e = text-accepted c.args.world.now c.play.new.self c.args.event.now c.in-Ok.answers.items c.in-Ok.ensures.ok in
-    PlaysAsked-err c.args.world.now c.play.new.self (Ok (Play (named_event c.args.event.now)))
+    PlaysAsked-err c.args.world.now c.play.new.self (Ok (Scripted (Play (named_event c.args.event.now))))
     (Plays (Play (named_event c.args.event.now)))
     (g.W.Write.contents c.args.writer.now)
     (g.W.Write.contents c.write_accepted.new.writer) c.from_residual.result p.0 p.1 refl
@@ -38,7 +39,7 @@ returns-in_err-write_answers-in-Ok g c =
     let p = err_from_is_err_and c.from_residual-in_err-write_answers-in-Ok.result
     c.from_residual-in_err-write_answers-in-Ok.ensures.1 in
     let e = text-accepted c.args.world.now c.play.new.self c.args.event.now c.in-Ok.answers.items c.in-Ok.ensures.ok in
-    PlaysAsked-err c.args.world.now c.play.new.self (Ok (Play (named_event c.args.event.now)))
+    PlaysAsked-err c.args.world.now c.play.new.self (Ok (Scripted (Play (named_event c.args.event.now))))
     (Plays (Play (named_event c.args.event.now)))
     (g.W.Write.contents c.args.writer.now)
     (g.W.Write.contents c.write_answers.new.writer) c.from_residual-in_err-write_answers-in-Ok.result p.0 p.1 refl
@@ -76,7 +77,7 @@ returns-in_err-write_text-in-Err g c =
     let b = g.W.Write.contents c.write_text.new.writer in
     let p = err_from_is_err_and c.from_residual-in_err-write_text-in-Err.result
     c.from_residual-in_err-write_text-in-Err.ensures.1 in
-    subst (λ (r : Result Bool WriteFault). PlaysAsked (Ok (Play (named_event c.args.event.now))) old new a b r) (sym p.1)
+    subst (λ (r : Result Bool WriteFault). PlaysAsked (Ok (Scripted (Play (named_event c.args.event.now)))) old new a b r) (sym p.1)
     (event-unwritten old new (named_event c.args.event.now) c.play.ensures.kept.names
     c.in-Err.ensures.as_before (refusal_of c.in-Err.refusal) c.in-Err.ensures.refused a b
     (subst (λ (t : List ℕ). AppendsPart a b t) (c.as_bytes.ensures.value ∙ c.refusal_line.ensures)

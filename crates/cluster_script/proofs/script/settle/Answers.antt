@@ -5,6 +5,7 @@ use Rattle.protocol_model.specs.NamedEvents.{Settle}
 use Rattle.std.specs.Io.KnownBytes.{Appends}
 use Rattle.command_lines.specs.NodeEventsSeen.{answer_of}
 use Rattle.command_lines.specs.declared.Answer.{Answer}
+use Rattle.command_lines.specs.Grammar.{Scripted}
 use Rattle.command_lines.specs.Printing.{answers_text}
 use Rattle.text_lines.specs.Writing.{AppendsPart}
 use Rattle.cluster_script.proofs.Writing.{PlaysAsked-err}
@@ -17,7 +18,7 @@ use Rattle.cluster_script.proofs.script.settle.Goals as goal
 
 -- it went on to its end
 settled : (old new : Held) (a b : Option (List ℕ)) (r : Result Bool WriteFault) → PlaysOrStops old new (Plays Settle) a b r
-    → PlaysAsked (Ok Settle) old new a b r
+    → PlaysAsked (Ok (Scripted Settle)) old new a b r
 settled old new a b r p = (Plays Settle, refl, p)
 
 pub loop-init : goal.loop-init
@@ -28,7 +29,7 @@ returns-in-Ok-None g c =
     let none = MatchOption-at_none _ _ c.in-Ok-None.field-0-is c.in-Ok-None.ensures.next in
     let a = g.W.Write.contents c.args.writer.now in
     let b = g.W.Write.contents c.loop.writer in
-    subst (λ (h : Held). PlaysAsked (Ok Settle) c.args.world.now h a (g.W.Write.contents c.end_settle.new.writer)
+    subst (λ (h : Held). PlaysAsked (Ok (Scripted Settle)) c.args.world.now h a (g.W.Write.contents c.end_settle.new.writer)
     c.end_settle.result) (sym none.1)
     (settled c.args.world.now c.loop.world a _ _
     (settle-ended c.loop.counter c.args.world.now c.loop.world a b c.loop.invariant
@@ -51,7 +52,7 @@ returns-in_err-write_answers-in-Ok-Some g c =
     let b = g.W.Write.contents c.loop.writer in
     let d = g.W.Write.contents c.write_answers.new.writer in
     let p = err_from_is_err_and c.from_residual.result c.from_residual.ensures.1 in
-    PlaysAsked-err c.args.world.now c.deliver_next.new.self (Ok Settle) (Plays Settle) a d c.from_residual.result p.0 p.1 refl
+    PlaysAsked-err c.args.world.now c.deliver_next.new.self (Ok (Scripted Settle)) (Plays Settle) a d c.from_residual.result p.0 p.1 refl
     (settle-stopped c.loop.counter c.args.world.now c.loop.world a b c.loop.invariant
     _ next.next c.loop-test.true d
     (answers-part c.loop.world c.deliver_next.new.self _ c.in-Ok-Some.answers.items b d next.played

@@ -6,7 +6,7 @@ use Rattle.console.proofs.answering.answer_each.Given as goal
 -- the lines so far were answered
 abbrev pub invariant-loop-line : goal.invariant-loop-line
 invariant-loop-line g l =
-    ServesSoFar g.A.Attendant.answers l.fn.stays l.fn.most (reader_remaining g.R.Read.remaining l.fn.reader)
+    ServesSoFar g.A.Attendant.answers g.A.Attendant.stands l.fn.stays l.fn.most (reader_remaining g.R.Read.remaining l.fn.reader)
     (reader_remaining g.R.Read.remaining l.reader) (g.W.Write.contents l.fn.writer) (g.W.Write.contents l.writer)
     (talk (g.A.Attendant.state l.fn.attendant) (linked_in l.fn.links)) (talk (g.A.Attendant.state l.attendant) (linked_in l.links)) l.left
 

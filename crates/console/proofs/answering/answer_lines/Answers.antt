@@ -3,5 +3,5 @@ use Rattle.console.proofs.answering.answer_lines.Goals as goal
 
 pub returns : goal.returns
 returns g c =
-    ended_behind_exits g.A.Attendant.answers _ _ _ _ _ _ _ _ _ _ _ c.answer_each-ended.result c.new-links.ensures
+    ended_behind_exits g.A.Attendant.answers g.A.Attendant.stands _ _ _ _ _ _ _ _ _ _ _ c.answer_each-ended.result c.new-links.ensures
     c.answer_each-ended.ensures c.exit_all.ensures

@@ -35,4 +35,4 @@ returns-in_err-text-in-Ok-SpawnLink g c = λ bytes k.
     (subst (λ (said : Result Command LineFault). LineSays c.args.stays own bytes said) c.in-Ok-SpawnLink.is
     (c.in_ok-order.ensures bytes k)) in
     MatchResult-err _ _ r p.0 p.1
-    (MayAnswer-spawned g.A.Attendant.answers c.args.stays bytes _ _ says c.in_err-text-in-Ok-SpawnLink.ensures)
+    (MayAnswer-spawned g.A.Attendant.answers g.A.Attendant.stands c.args.stays bytes _ _ says c.in_err-text-in-Ok-SpawnLink.ensures)

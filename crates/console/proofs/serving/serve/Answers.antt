@@ -3,7 +3,7 @@ use Rattle.std.specs.Io.Buffered.{reader_remaining}
 use Rattle.node_seats.specs.Seats.{Sitting}
 use Rattle.node_seats.specs.declared.Transcript.{Transcript}
 use Rattle.console.specs.Consoles.{Serves, Stops}
-use Rattle.console.specs.Seats.{SeatAnswers, IsTranscript}
+use Rattle.console.specs.Seats.{SeatAnswers, SeatStands, IsTranscript}
 use Rattle.console.proofs.serving.serve.Goals as goal
 
 -- the transcript that a seat leaves is its own
@@ -22,7 +22,7 @@ returns-in-Ok g c =
     let served = c.in-Ok.ensures in (
       seat,
       left_by seat transcript.result transcript.ensures.seat transcript.ensures.node transcript.ensures.entries,
-      subst (λ (most : ℕ). Serves SeatAnswers false most input rest old new c.args.seat seat) c.from-most.ensures
+      subst (λ (most : ℕ). Serves SeatAnswers SeatStands false most input rest old new c.args.seat seat) c.from-most.ensures
           (served.0, served.1.0, served.2),
     )
 
@@ -36,6 +36,6 @@ returns-in-Err g c =
     let new = g.W.Write.contents c.answer_lines-ended.new.writer in (
       seat,
       left_by seat transcript.result transcript.ensures.seat transcript.ensures.node transcript.ensures.entries,
-      subst (λ (most : ℕ). Stops SeatAnswers false most input rest old new c.args.seat seat c.in-Err.fault) c.from-most.ensures
+      subst (λ (most : ℕ). Stops SeatAnswers SeatStands false most input rest old new c.args.seat seat c.in-Err.fault) c.from-most.ensures
           c.in-Err.ensures,
     )

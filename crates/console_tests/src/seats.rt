@@ -1,0 +1,377 @@
+//! Consoles at seats of running clusters: readers and writers that fail at each point, two consoles that have one seat, and lock calls whose
+//! client goes while they wait. One function owns a cluster; what is said and looked at borrows it.
+use crate::clients::{Home, Leaver, Listener};
+use crate::ends::{Ended, ended_by};
+use crate::faults::{are_lines_of, line_ends};
+use crate::streams::{Full, Torn};
+use console::{Client, ConsoleEnd, serve, serve_staying};
+use name_table::ListTable;
+use node_threads::{Cluster, OpenGate, Seat, Transcript};
+use std::alloc::Global;
+use std::io::{BufReader, Cursor, Read, Write};
+use std::sync::atomic::{AtomicU32, Ordering};
+use std::sync::{Arc, Wait};
+use std::thread::Threads;
+use std::time::Clock;
+use term::{NodeName, parse_nodes};
+
+/// A cluster whose tables are lists.
+type Small = Cluster<OpenGate, ListTable<Global>>;
+
+/// Lines of a console at one of two nodes, which leaves.
+const LINES: &[u8] = b"whereis x\n\nexit b.1\nset_lock b.1 r q all 0\nnames\nleave\nspawn\nquit\n";
+
+/// What they are answered.
+const TEXT: &[u8] =
+    b"undefined\nerror bad_line\nerror no_such_process\nerror not_live\nnames\nok\nerror node_left\nok\n";
+
+/// How many of the first so many lines stand in the transcript: a look-up and what is refused don't.
+fn entries_for(lines: usize) -> usize {
+    match lines {
+        0..=4 => 0,
+        5 => 1,
+        _ => 2,
+    }
+}
+
+/// What is said at the seats of a cluster.
+#[derive(Clone, Copy)]
+enum Talk<'a> {
+    /// All lines.
+    Whole,
+    /// These, behind which the reader fails.
+    Torn(&'a [u8]),
+    /// All, by a console whose writer has room for these answers.
+    Full(&'a [u8]),
+    /// One console, and then another at the same seat.
+    InTurn,
+    /// Lock calls that wait, whose clients go.
+    Waits,
+}
+
+/// Keeps a transcript. Whether it has so many entries, and there was memory.
+fn keeps(told: &mut Vec<Transcript>, transcript: Transcript, entries: usize) -> bool {
+    transcript.entries.len() == entries && told.push(transcript).is_ok()
+}
+
+/// Whether a console at a seat comes to this, with so many entries in its transcript, which is kept.
+fn comes_to<H: Wait + Clock, R: Read + Drop, W: Write>(
+    rt: &H,
+    alloc: Global,
+    seat: Seat,
+    reader: R,
+    writer: &mut W,
+    wanted: (Ended, usize),
+    told: &mut Vec<Transcript>,
+) -> bool {
+    match BufReader::new(alloc, reader) {
+        Ok(mut reader) => match serve(rt, alloc, &mut reader, writer, seat) {
+            Ok(transcript) => wanted.0 == Ended::Whole && keeps(told, transcript, wanted.1),
+            Err((fault, transcript)) => {
+                wanted.0 == ended_by(&fault) && keeps(told, transcript, wanted.1)
+            }
+        },
+        Err(_) => false,
+    }
+}
+
+/// Whether a console that fails nowhere is answered each line.
+fn is_answered<H: Wait + Clock>(
+    rt: &H,
+    alloc: Global,
+    seat: Seat,
+    told: &mut Vec<Transcript>,
+) -> bool {
+    let mut written = Vec::new(alloc);
+    let wanted = (Ended::Whole, 2);
+    comes_to(
+        rt,
+        alloc,
+        seat,
+        Cursor::new(LINES),
+        &mut written,
+        wanted,
+        told,
+    ) && written.as_slice() == TEXT
+}
+
+/// Whether one whose reader fails behind these bytes is answered the lines before.
+fn is_torn<H: Wait + Clock>(
+    rt: &H,
+    alloc: Global,
+    seat: Seat,
+    read: &[u8],
+    told: &mut Vec<Transcript>,
+) -> bool {
+    let mut written = Vec::new(alloc);
+    let lines = line_ends(read);
+    let wanted = (Ended::Read, entries_for(lines));
+    comes_to(
+        rt,
+        alloc,
+        seat,
+        Torn::new(read, 5),
+        &mut written,
+        wanted,
+        told,
+    ) && are_lines_of(TEXT, lines, written.as_slice())
+}
+
+/// Whether one whose writer has room for these bytes writes them alone, and carried out what it couldn't answer.
+fn is_full<H: Wait + Clock>(
+    rt: &H,
+    alloc: Global,
+    seat: Seat,
+    text: &[u8],
+    told: &mut Vec<Transcript>,
+) -> bool {
+    let mut writer = Full::new(Vec::new(alloc), text.len(), true);
+    let wanted = (Ended::Write, entries_for(line_ends(text).saturating_add(1)));
+    comes_to(
+        rt,
+        alloc,
+        seat,
+        Cursor::new(LINES),
+        &mut writer,
+        wanted,
+        told,
+    ) && writer.taken.as_slice() == text
+}
+
+/// Whether a console of a server that stays, at a seat, answers lines with this text, and ends so; and the seat.
+fn hold<H: Wait + Clock, C: Client + Drop>(
+    rt: &H,
+    alloc: Global,
+    seat: Seat,
+    client: C,
+    lines: &[u8],
+    text: &[u8],
+    wanted: ConsoleEnd,
+) -> (bool, Seat) {
+    match BufReader::new(alloc, Cursor::new(lines)) {
+        Ok(mut reader) => {
+            let mut written = Vec::new(alloc);
+            let (result, seat) = serve_staying(
+                rt,
+                alloc,
+                &mut reader,
+                &mut written,
+                seat,
+                client,
+                &Home,
+            );
+            let is_due = match result {
+                Ok(end) => end == wanted && written.as_slice() == text,
+                Err(_) => false,
+            };
+            (is_due, seat)
+        }
+        Err(_) => (false, seat),
+    }
+}
+
+/// Whether two consoles that have a seat, one after the other, are answered as they should be, and what both were told is kept.
+fn holds_twice<H: Wait + Clock>(
+    rt: &H,
+    alloc: Global,
+    seat: Seat,
+    told: &mut Vec<Transcript>,
+) -> bool {
+    let lines = b"spawn\nspawn_link\nquit\n".as_slice();
+    let text = b"a.1\na.2\nok\n".as_slice();
+    let (first, seat) = hold(rt, alloc, seat, Listener, lines, text, ConsoleEnd::Quit);
+    let lines = b"exit a.1\nexit a.2\nspawn\nshutdown\nspawn\n".as_slice();
+    let text = b"ok\nerror already_exited\na.3\nok\n".as_slice();
+    let (second, seat) = hold(rt, alloc, seat, Listener, lines, text, ConsoleEnd::Shutdown);
+    keeps(told, seat.into_transcript(), 5) && first && second
+}
+
+/// Whether a console of this client, at a new seat of a node, answers lines with this text. The seat is given back.
+fn answers<H: Wait + Clock, C: Client + Drop>(
+    rt: &H,
+    alloc: Global,
+    cluster: &mut Small,
+    node: &NodeName,
+    client: C,
+    lines: &[u8],
+    text: &[u8],
+) -> bool {
+    match cluster.seat(node) {
+        Ok(seat) => {
+            let (is_due, seat) = hold(rt, alloc, seat, client, lines, text, ConsoleEnd::Input);
+            cluster.give_back(seat);
+            is_due
+        }
+        Err(_) => false,
+    }
+}
+
+/// Whether a console looks more often than so at a client that has ended its input, and is gone behind so many looks, and its lines are
+/// answered with this text.
+fn looks<H: Wait + Clock>(
+    rt: &H,
+    alloc: Global,
+    cluster: &mut Small,
+    node: &NodeName,
+    stays: u32,
+    least: u32,
+    lines: &[u8],
+    text: &[u8],
+) -> bool {
+    match Arc::new(alloc, AtomicU32::new(0)) {
+        Ok(counted) => match Arc::try_clone(&counted) {
+            Ok(looks) => {
+                let client = Leaver { looks, stays };
+                answers(rt, alloc, cluster, node, client, lines, text)
+                    && counted.load(Ordering::SeqCst) > least
+            }
+            Err(_) => false,
+        },
+        Err(_) => false,
+    }
+}
+
+/// Whether lock calls of clients that go are given up, and nothing else.
+fn waits_no_longer<H: Wait + Clock>(
+    rt: &H,
+    alloc: Global,
+    cluster: &mut Small,
+    node: &NodeName,
+) -> bool {
+    let holds = b"spawn\nset_lock a.1 r q all 0\n".as_slice();
+    // The client is gone, or has ended its input, and the process is linked. It is told of that process all the same.
+    let linked = b"spawn_link\nset_lock self r z all infinity\n".as_slice();
+    let exited = b"exit a.2\nexit a.3\nspawn\n".as_slice();
+    let text = b"error already_exited\nerror already_exited\na.4\n".as_slice();
+    // The client has ended its input, and the process isn't linked: the call waits until the client is gone.
+    let unlinked = b"set_lock a.4 r z all infinity\n".as_slice();
+    let freed = b"exit a.4\ndel_lock a.1 r q all\nspawn\nset_lock a.5 r z all 0\n".as_slice();
+    answers(rt, alloc, cluster, node, Listener, holds, b"a.1\ntrue\n")
+        && looks(
+            rt,
+            alloc,
+            cluster,
+            node,
+            0,
+            0,
+            linked,
+            b"a.2\nerror closed\n",
+        )
+        && looks(
+            rt,
+            alloc,
+            cluster,
+            node,
+            u32::MAX,
+            0,
+            linked,
+            b"a.3\nerror closed\n",
+        )
+        && answers(rt, alloc, cluster, node, Listener, exited, text)
+        && looks(rt, alloc, cluster, node, 3, 3, unlinked, b"error closed\n")
+        && answers(
+            rt,
+            alloc,
+            cluster,
+            node,
+            Listener,
+            freed,
+            b"ok\ntrue\na.5\ntrue\n",
+        )
+}
+
+impl<'a> Talk<'a> {
+    /// Has it said at a seat, and keeps what that was told. Whether all was answered as it should be.
+    fn is_held<H: Wait + Clock>(
+        self,
+        rt: &H,
+        alloc: Global,
+        seat: Seat,
+        told: &mut Vec<Transcript>,
+    ) -> bool {
+        match self {
+            Talk::Whole => is_answered(rt, alloc, seat, told),
+            Talk::Torn(read) => is_torn(rt, alloc, seat, read, told),
+            Talk::Full(text) => is_full(rt, alloc, seat, text, told),
+            Talk::InTurn => holds_twice(rt, alloc, seat, told),
+            Talk::Waits => false,
+        }
+    }
+
+    /// Has it said at seats of a node of a cluster, and keeps what they were told. Whether all was answered as it should be.
+    fn holds<H: Wait + Clock>(
+        self,
+        rt: &H,
+        alloc: Global,
+        cluster: &mut Small,
+        node: &NodeName,
+        told: &mut Vec<Transcript>,
+    ) -> bool {
+        if matches!(self, Talk::Waits) {
+            return waits_no_longer(rt, alloc, cluster, node);
+        }
+        match cluster.seat(node) {
+            Ok(seat) => self.is_held(rt, alloc, seat, told),
+            Err(_) => false,
+        }
+    }
+}
+
+/// Has a talk at the first of the nodes of a new cluster. Whether all was answered as it should be, and the run with what its seats were
+/// told is one of the world's.
+fn is_closed<R>(rt: &R, alloc: Global, nodes: &[NodeName], node: &NodeName, talk: Talk<'_>) -> bool
+where
+    R: Threads + Wait + Clock + Drop + Copy + Send + 'static,
+{
+    match Small::start(rt, alloc, nodes, &[], OpenGate, 0) {
+        Ok(mut cluster) => {
+            let mut told = Vec::new(alloc);
+            let fine = talk.holds(rt, alloc, &mut cluster, node, &mut told);
+            cluster.close(rt, told.as_slice()).is_ok() && fine
+        }
+        Err(_) => false,
+    }
+}
+
+/// Has a talk in a new cluster of these nodes, at their first.
+fn is_had<R>(rt: &R, alloc: Global, nodes: &str, talk: Talk<'_>) -> bool
+where
+    R: Threads + Wait + Clock + Drop + Copy + Send + 'static,
+{
+    match parse_nodes(nodes) {
+        Ok(nodes) => match nodes.as_slice().first() {
+            Some(node) => is_closed(rt, alloc, nodes.as_slice(), node, talk),
+            None => false,
+        },
+        Err(_) => false,
+    }
+}
+
+#[test]
+fn transcripts_are_handed_back(rt: HostRuntime) {
+    assert!(rt; is_had(&rt, rt.alloc(), "a,b", Talk::Whole));
+}
+
+#[test]
+fn readers_fail_at_each_point_of_a_seat(rt: HostRuntime) {
+    for count in 0..LINES.len() {
+        assert!(rt; is_had(&rt, rt.alloc(), "a,b", Talk::Torn(&LINES[..count])));
+    }
+}
+
+#[test]
+fn writers_fail_at_each_point_of_a_seat(rt: HostRuntime) {
+    for room in 0..TEXT.len() {
+        assert!(rt; is_had(&rt, rt.alloc(), "a,b", Talk::Full(&TEXT[..room])));
+    }
+}
+
+#[test]
+fn a_seat_comes_back(rt: HostRuntime) {
+    assert!(rt; is_had(&rt, rt.alloc(), "a", Talk::InTurn));
+}
+
+#[test]
+fn calls_whose_client_goes_are_given_up(rt: HostRuntime) {
+    assert!(rt; is_had(&rt, rt.alloc(), "a", Talk::Waits));
+}

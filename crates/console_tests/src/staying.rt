@@ -1,0 +1,88 @@
+//! Consoles of a server that stays and of others: `shutdown`, `status`, as many lines as may come, and how each console ended.
+use crate::clerks::{Clerk, answers, hold, leaves};
+use crate::ends::{Ended, ended_by};
+use console::{ConsoleEnd, ConsoleFault};
+use std::alloc::Global;
+use std::io::Cursor;
+
+#[test]
+fn ends_are_told(rt: HostRuntime) {
+    let alloc = rt.alloc();
+    assert!(rt; answers(alloc, true, b"quit\n", b"ok\n", ConsoleEnd::Quit));
+    assert!(rt;
+        answers(
+            alloc,
+            true,
+            b" shutdown \r\n",
+            b"ok\n",
+            ConsoleEnd::Shutdown
+        )
+    );
+    assert!(rt; answers(alloc, true, b"spawn\n", b"a.1\n", ConsoleEnd::Input));
+    assert!(rt; answers(alloc, true, b"", b"", ConsoleEnd::Input));
+    assert!(rt; answers(alloc, false, b"quit\n", b"ok\n", ConsoleEnd::Quit));
+    assert!(rt; answers(alloc, false, b"spawn", b"a.1\n", ConsoleEnd::Input));
+}
+
+#[test]
+fn shutdown_is_one_word_of_a_server_that_stays(rt: HostRuntime) {
+    let alloc = rt.alloc();
+    let lines = b"shutdown\nshutdown now\nshut\n".as_slice();
+    let text = b"error bad_line\nerror bad_line\nerror bad_line\n".as_slice();
+    assert!(rt; answers(alloc, false, lines, text, ConsoleEnd::Input));
+    let lines = b"shutdown now\nSHUTDOWN\nshutdown\n".as_slice();
+    let text = b"error bad_line\nerror bad_line\nok\n".as_slice();
+    assert!(rt; answers(alloc, true, lines, text, ConsoleEnd::Shutdown));
+}
+
+#[test]
+fn status_is_one_line_of_a_server_that_stays(rt: HostRuntime) {
+    let alloc = rt.alloc();
+    let text = b"error bad_line\nerror bad_line\n".as_slice();
+    assert!(rt; answers(alloc, false, b"status\nstatus a\n", text, ConsoleEnd::Input));
+    let text =
+        b"status a lone members a names 3 locks 2 calls 1204 serials 17 spans 1 consoles 5 steps 9120 memory 14680064\n\
+        error bad_line\nerror bad_line\na.1\n";
+    let lines = b"status\nstatus a\nSTATUS\nspawn\n".as_slice();
+    assert!(rt; answers(alloc, true, lines, text.as_slice(), ConsoleEnd::Input));
+}
+
+#[test]
+fn nothing_behind_the_last_line_is_read(rt: HostRuntime) {
+    let alloc = rt.alloc();
+    let lines = b"spawn\nquit\nspawn\nbogus".as_slice();
+    assert!(rt; leaves(alloc, false, lines, ConsoleEnd::Quit, b"spawn\nbogus"));
+    let lines = b"spawn\nshutdown\nspawn\n".as_slice();
+    assert!(rt; leaves(alloc, true, lines, ConsoleEnd::Shutdown, b"spawn\n"));
+}
+
+/// Whether a console came to an end with its input where it may have all lines, and else to a fault.
+fn is_due(found: Result<ConsoleEnd, ConsoleFault>, is_whole: bool) -> bool {
+    match found {
+        Ok(end) => is_whole && end == ConsoleEnd::Input,
+        Err(fault) => !is_whole && ended_by(&fault) == Ended::TooMany,
+    }
+}
+
+/// Whether three lines, of which `most` may come, are answered so.
+fn has_answers(alloc: Global, most: u64, text: &[u8], is_whole: bool) -> bool {
+    match Clerk::new(alloc) {
+        Some(mut clerk) => {
+            let mut written = Vec::new(alloc);
+            let lines = Cursor::new(b"spawn\n\nspawn".as_slice());
+            let result = hold(alloc, &mut clerk, lines, &mut written, true, most);
+            is_due(result, is_whole) && written.as_slice() == text
+        }
+        None => false,
+    }
+}
+
+#[test]
+fn no_more_lines_are_answered_than_may_come(rt: HostRuntime) {
+    let alloc = rt.alloc();
+    assert!(rt; has_answers(alloc, 0, b"", false));
+    assert!(rt; has_answers(alloc, 1, b"a.1\n", false));
+    assert!(rt; has_answers(alloc, 2, b"a.1\nerror bad_line\n", false));
+    assert!(rt; has_answers(alloc, 3, b"a.1\nerror bad_line\na.2\n", true));
+    assert!(rt; has_answers(alloc, u64::MAX, b"a.1\nerror bad_line\na.2\n", true));
+}

@@ -1,0 +1,17 @@
+pub mod Tried
+pub mod Asked
+pub mod Unrivalled
+pub mod Becoming
+pub mod Winning
+pub mod Front
+pub mod Rivals
+pub mod RivalsFirst
+pub mod Standing
+pub mod Chosen
+pub mod OpenCalls
+pub mod WhyHeld
+pub mod Finishing
+pub mod ByNames
+pub mod NamedFinishing
+pub mod Laws
+pub mod NamedRetried
