@@ -19,8 +19,8 @@ fn takes_a_line() -> bool {
     poll(&mut asked, 0) != 0
 }
 
-/// Standard error, as a server that stays tells there what happens. It waits for nobody: a line that can't be written at once is dropped, and
-/// before the next one that can it is told how many were. Each line is written in one piece.
+/// Standard error, as a server that stays tells there what happens. It waits for nobody: a line that can't be written at once is
+/// dropped, and before the next one that can it is told how many were. Each line is written in one piece.
 #[derive(Drop)]
 pub(crate) struct Journal<'a, E: Write> {
     errors: &'a mut E,

@@ -288,9 +288,9 @@ fn play_all<R: Read, W: Write>(
 /// Plays a script, and writes what it prints: whether no refusal is printed.
 ///
 /// Its first line that isn't empty names the nodes of the cluster, and the next one may name lone nodes; each other line asks
-/// for an event, for deliveries until no letter waits, or for these and retries until nothing waits but lock calls. A line that is refused prints the word for it and changes nothing;
-/// where there is no world, the script ends, and no further byte is read. What was written is handed on before the reader
-/// waits for more.
+/// for an event, for deliveries until no letter waits, or for these and retries until nothing waits but lock calls. A line that is
+/// refused prints the word for it and changes nothing; where there is no world, the script ends, and no further byte is read. What was
+/// written is handed on before the reader waits for more.
 ///
 /// Memory may be refused for any line: it is refused like any other then, by `error memory`, and plays nothing. Where that comes
 /// among the events of a `settle` or a `finish`, those before it stand, and `error memory` takes the place of `settled` or `finished`.

@@ -6,11 +6,11 @@ use Rattle.protocol_model.proofs.Courses.{answers-append, course_answers}
 use Rattle.protocol_model.specs.Course.{answers_of}
 use Rattle.protocol_model.specs.Event.{Answer as AnyAnswer}
 use Rattle.protocol_model.specs.World.{Opening, World, WorldEvent as AnyWorldEvent, opening_world, all_answers}
-use Rattle.creations.specs.NodeNames.{NamedOpening, opening_of as all_creations}
-use Rattle.creations.specs.NamedWorld.{NamedWorld, NamedEvent, opening_named, plain_accepted, plain_events, happens_named, named_answers, run_named, after_events, as_events}
-use Rattle.creations.specs.Lifted.{events_played}
-use Rattle.creations.proofs.NamedRuns.{happens-plain, named_runs_are_runs, plain_events-append}
-use Rattle.creations.proofs.Lifting.{agreement}
+use Rattle.getting_through.specs.NodeNames.{NamedOpening, opening_of as all_creations}
+use Rattle.getting_through.specs.NamedWorld.{NamedWorld, NamedEvent, opening_named, plain_accepted, plain_events, happens_named, named_answers, run_named, after_events, as_events}
+use Rattle.getting_through.specs.Lifted.{events_played}
+use Rattle.getting_through.proofs.NamedRuns.{happens-plain, named_runs_are_runs, plain_events-append}
+use Rattle.getting_through.proofs.Lifting.{agreement}
 use Rattle.node_core.specs.declared.Answer.{Answer}
 use Rattle.node_core.specs.NodeEventsSeen.{answer_of}
 use Rattle.world_events.specs.declared.events.WorldEvent.{WorldEvent}

@@ -13,19 +13,19 @@ use Rattle.protocol_model.specs.Letter.{Id, Client, is_id}
 use Rattle.protocol_model.specs.Node.{Target, Retries, targets}
 use Rattle.protocol_model.specs.ClientLocks.{Try, Tally, try_of, last_try, tally_from, tally_after, holds_count, gives}
 use Rattle.protocol_model.specs.World.{Opening, World, WorldEvent as AnyWorldEvent, opening_world, happens, answers, run, all_answers}
-use Rattle.creations.specs.NodeNames.{NamedOpening, opening_of as all_creations}
-use Rattle.creations.specs.NamedWorld.{NamedWorld, NamedEvent, AtNode, opening_named, plain_events, named_refusal, named_answers, happens_named, run_named, after_events, as_events}
-use Rattle.creations.proofs.NamedRuns.{run-plain, named_runs_are_runs, plain_events-append, tally-append}
-use Rattle.creations.proofs.Events.{accepted_of, lock_tested, live_own, none_of}
-use Rattle.creations.proofs.Clients.{Numbers, call_at}
-use Rattle.creations.proofs.Ids.{is_process_self}
-use Rattle.creations.proofs.Opening.{no_numbers}
-use Rattle.creations.proofs.RoundNumbers.{round_count_after, round_count_from}
-use Rattle.creations.proofs.Tallies.{fits_opens, fits_behind}
-use Rattle.creations.proofs.Tries.{Fits}
-use Rattle.creations.proofs.Walking.{event_keeps, run_state, opening_state}
-use Rattle.creations.proofs.Together.{All}
-use Rattle.creations.proofs.Theorem.{calls_are_answered_once}
+use Rattle.getting_through.specs.NodeNames.{NamedOpening, opening_of as all_creations}
+use Rattle.getting_through.specs.NamedWorld.{NamedWorld, NamedEvent, AtNode, opening_named, plain_events, named_refusal, named_answers, happens_named, run_named, after_events, as_events}
+use Rattle.getting_through.proofs.NamedRuns.{run-plain, named_runs_are_runs, plain_events-append, tally-append}
+use Rattle.getting_through.proofs.Events.{accepted_of, lock_tested, live_own, none_of}
+use Rattle.getting_through.proofs.Clients.{Numbers, call_at}
+use Rattle.getting_through.proofs.Ids.{is_process_self}
+use Rattle.getting_through.proofs.Opening.{no_numbers}
+use Rattle.getting_through.proofs.RoundNumbers.{round_count_after, round_count_from}
+use Rattle.getting_through.proofs.Tallies.{fits_opens, fits_behind}
+use Rattle.getting_through.proofs.Tries.{Fits}
+use Rattle.getting_through.proofs.Walking.{event_keeps, run_state, opening_state}
+use Rattle.getting_through.proofs.Together.{All}
+use Rattle.getting_through.proofs.Theorem.{calls_are_answered_once}
 use Rattle.node_core.specs.declared.Answer.{Answer}
 use Rattle.node_core.specs.NodeEventsSeen.{answer_of}
 use Rattle.world_events.specs.declared.events.WorldEvent.{WorldEvent}

@@ -8,12 +8,12 @@ use Rattle.std.proofs.lemmas.List.Folds.{find-append}
 use Rattle.protocol_model.specs.Links.{is_nil}
 use Rattle.protocol_model.specs.Event.{Refusal as AnyRefusal}
 use Rattle.protocol_model.specs.World.{WorldEvent as AnyWorldEvent, in_world}
-use Rattle.creations.specs.NodeNames.{NamedOpening, span, node_of, name_of as name_in, first_nodes}
-use Rattle.creations.specs.NamedWorld.{NamedWorld, NamedEvent, NamedRefusal, Plain, present_node, has_started, sender_to, or_present, plain_refusal, named_refusal}
-use Rattle.creations.specs.Restarts.{NodesStand}
-use Rattle.creations.proofs.Numbers.{name-node, inside-name}
-use Rattle.creations.proofs.Standing.{started_to}
-use Rattle.creations.proofs.Always.{nodes_always_stand}
+use Rattle.getting_through.specs.NodeNames.{NamedOpening, span, node_of, name_of as name_in, first_nodes}
+use Rattle.getting_through.specs.NamedWorld.{NamedWorld, NamedEvent, NamedRefusal, Plain, present_node, has_started, sender_to, or_present, plain_refusal, named_refusal}
+use Rattle.getting_through.specs.Restarts.{NodesStand}
+use Rattle.getting_through.proofs.Numbers.{name-node, inside-name}
+use Rattle.getting_through.proofs.Standing.{started_to}
+use Rattle.getting_through.proofs.Always.{nodes_always_stand}
 use Rattle.term.specs.Nodes.{IsFirst, text_in, name_of, creation_of, first_node}
 use Rattle.term.specs.NodeSets.{set_of, names_in, with_older}
 use Rattle.term.proofs.Numbers.{of_both, text_in-first_node, name_of-packed, name_of-first}

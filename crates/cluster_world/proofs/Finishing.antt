@@ -6,12 +6,12 @@ use Rattle.std.proofs.lemmas.List.Sums.{fold-append}
 use Rattle.protocol_model.specs.Event.{Event as AnyEvent}
 use Rattle.protocol_model.specs.Node.{Op, Current}
 use Rattle.protocol_model.specs.World.{At as AtAny, refusal}
-use Rattle.creations.specs.NodeNames.{NamedOpening, opening_of as all_creations}
-use Rattle.creations.specs.NamedWorld.{NamedWorld, NamedEvent, named_refusal, happens_named, run_named, opening_named, after_events}
-use Rattle.creations.specs.NamedScript.{next_named, named_deliveries_left}
-use Rattle.creations.specs.Restarts.{IsUp}
-use Rattle.creations.specs.NamedLeftovers.{NamesAreSettled}
-use Rattle.creations.specs.Lifted.{events_played}
+use Rattle.getting_through.specs.NodeNames.{NamedOpening, opening_of as all_creations}
+use Rattle.getting_through.specs.NamedWorld.{NamedWorld, NamedEvent, named_refusal, happens_named, run_named, opening_named, after_events}
+use Rattle.getting_through.specs.NamedScript.{next_named, named_deliveries_left}
+use Rattle.getting_through.specs.Restarts.{IsUp}
+use Rattle.getting_through.specs.NamedLeftovers.{NamesAreSettled}
+use Rattle.getting_through.specs.Lifted.{events_played}
 use Rattle.getting_through.specs.Answering.{NameCallsAreAnswered}
 use Rattle.getting_through.specs.NamedNoDeadEnd.{named_work}
 use Rattle.getting_through.specs.NamedGettingFree.{is_named_delivery_or_retry, named_pending, NamesLeadOn}

@@ -9,7 +9,7 @@ use Rattle.registry_model.specs.Process.{nodes_of as all_below}
 use Rattle.registry_model.proofs.NodeLists.{are_nodes_below}
 use Rattle.protocol_model.specs.Node.{Node, holds_global}
 use Rattle.protocol_model.specs.World.{in_world, holder, left}
-use Rattle.creations.proofs.Lists.{Rise, find_none, find_least, nodes_rise}
+use Rattle.getting_through.proofs.Lists.{Rise, find_none, find_least, nodes_rise}
 use Rattle.term.specs.NodeSets.{set_of, with_older}
 use Rattle.term.proofs.NodeLists.{rising-tail}
 use Rattle.term.proofs.NodeSets.{rises}

@@ -1,9 +1,9 @@
 -- Nothing is left over, where events are played in pieces.
 use Rattle.std.proofs.Common.{List, ◌++◌, sym, subst}
 use Rattle.node_core.specs.declared.Answer.{Answer}
-use Rattle.creations.specs.NamedWorld.{NamedWorld, NamedEvent}
-use Rattle.creations.specs.NamedLeftovers.{NothingIsLeftOfNames}
-use Rattle.creations.proofs.LeftOfNames.{nothing_is_left}
+use Rattle.getting_through.specs.NamedWorld.{NamedWorld, NamedEvent}
+use Rattle.getting_through.specs.NamedLeftovers.{NothingIsLeftOfNames}
+use Rattle.getting_through.proofs.LeftOfNames.{nothing_is_left}
 use Rattle.world_events.specs.declared.events.WorldEvent.{WorldEvent}
 use Rattle.cluster_world.specs.Held.{Held}
 use Rattle.cluster_world.specs.Seen.{names_of, named}

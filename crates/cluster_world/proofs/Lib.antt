@@ -1,10 +1,10 @@
-pub use Rattle.creations.proofs.NobodyBack
-pub use Rattle.creations.proofs.Theorem
-pub use Rattle.creations.proofs.ClientLocks
-pub use Rattle.creations.proofs.Nothing
-pub use Rattle.creations.proofs.NamedRuns
-pub use Rattle.creations.proofs.LeftOfNames
-pub use Rattle.creations.proofs.Lifting
+pub use Rattle.getting_through.proofs.NobodyBack
+pub use Rattle.getting_through.proofs.Theorem
+pub use Rattle.getting_through.proofs.ClientLocks
+pub use Rattle.getting_through.proofs.Nothing
+pub use Rattle.getting_through.proofs.NamedRuns
+pub use Rattle.getting_through.proofs.LeftOfNames
+pub use Rattle.getting_through.proofs.Lifting
 pub use Rattle.node_core.proofs.Bounds
 pub use Rattle.world_events.proofs.Faults
 pub mod Naming

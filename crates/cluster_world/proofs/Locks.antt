@@ -2,7 +2,7 @@
 use Rattle.std.proofs.Common.{ℕ, Bool, true, false, ◌≡◌, ◌<◌, ◌+◌, ◌-◌, Option, Some, None, List, [], ◌∷◌, ◌++◌, sym, subst, arith}
 use Rattle.std.specs.Prelude.{is_none, is_some, not, ◌&&◌, ◌||◌, if◌then◌else◌}
 use Rattle.std.proofs.lemmas.Bool.{and_parts}
-use Rattle.creations.proofs.ClientLocks.{client_locks}
+use Rattle.getting_through.proofs.ClientLocks.{client_locks}
 use Rattle.registry_model.specs.Process.{Process}
 use Rattle.node_core.specs.declared.Answer.{Answer}
 use Rattle.protocol_model.specs.ClientLocks.{Tally, tally_from, tally_after, last_try, is_won, is_no_more, gives, Holds}
@@ -12,11 +12,11 @@ use Rattle.protocol_model.specs.World.{Opening, World, WorldEvent as AnyWorldEve
 use Rattle.world_events.specs.declared.events.WorldEvent.{WorldEvent}
 use Rattle.cluster_world.specs.Held.{Held}
 use Rattle.world_events.specs.Openings.{opening_with}
-use Rattle.creations.specs.NamedWorld.{NamedWorld, NamedEvent, as_events}
-use Rattle.creations.specs.NamedQuietCalls.{NamedQuietCalls}
-use Rattle.creations.proofs.NamedRuns.{tally-append}
-use Rattle.creations.proofs.Lifting.{client_locks as named_locks}
-use Rattle.creations.proofs.QuietNames.{quiet_calls}
+use Rattle.getting_through.specs.NamedWorld.{NamedWorld, NamedEvent, as_events}
+use Rattle.getting_through.specs.NamedQuietCalls.{NamedQuietCalls}
+use Rattle.getting_through.proofs.NamedRuns.{tally-append}
+use Rattle.getting_through.proofs.Lifting.{client_locks as named_locks}
+use Rattle.getting_through.proofs.QuietNames.{quiet_calls}
 use Rattle.cluster_world.specs.Seen.{names_of, opening_of, seen, named}
 use Rattle.cluster_world.specs.Playing.{events_of}
 use Rattle.cluster_world.specs.Agreeing.{AgreesAfter, Agrees}

@@ -6,11 +6,11 @@ use Rattle.std.proofs.Math.Bool.{and-false}
 use Rattle.std.proofs.lemmas.Bool.{cases_eq, cases_lt, eq-eqb, ne_eqb, eqb-true, lt-ltb, le-ltb, or_cases, or_left, or_right, false_from_ne_true}
 use Rattle.registry_model.proofs.Updates.{by_test}
 use Rattle.protocol_model.specs.World.{in_world}
-use Rattle.creations.specs.NodeNames.{is_name, span, opening_of as all_creations}
-use Rattle.creations.specs.NamedWorld.{present_node, has_started}
-use Rattle.creations.specs.Restarts.{IsUp, IsReplaced}
-use Rattle.creations.proofs.Numbers.{inside-name}
-use Rattle.creations.proofs.Standing.{started_from}
+use Rattle.getting_through.specs.NodeNames.{is_name, span, opening_of as all_creations}
+use Rattle.getting_through.specs.NamedWorld.{present_node, has_started}
+use Rattle.getting_through.specs.Restarts.{IsUp, IsReplaced}
+use Rattle.getting_through.proofs.Numbers.{inside-name}
+use Rattle.getting_through.proofs.Standing.{started_from}
 use Rattle.registry_model.specs.Process.{at}
 use Rattle.term.specs.Nodes.{text_in, name_of, creation_of, first_node}
 use Rattle.term.specs.NodeSets.{set_of, names_in, with_older, succeeded}

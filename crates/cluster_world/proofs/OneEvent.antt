@@ -4,9 +4,9 @@ use Rattle.std.specs.Prelude.{is_none, is_some, option_map, if◌then◌else◌}
 use Rattle.std.proofs.lemmas.List.{append-nil}
 use Rattle.protocol_model.specs.Event.{Event, Answer, Refusal, NoSuchNode}
 use Rattle.protocol_model.specs.World.{Opening, WorldEvent, other, refusal, happens, answers, run, all_answers}
-use Rattle.creations.specs.NodeNames.{NamedOpening, opening_of as all_creations}
-use Rattle.creations.specs.NamedWorld.{NamedWorld, NamedEvent, AtNode, Deliver, NamedRefusal, Plain, present_node, has_started, sender_to, plain, plain_refusal, plain_accepted, plain_events, named_refusal, named_answers, happens_named}
-use Rattle.creations.proofs.NamedRuns.{happens-plain}
+use Rattle.getting_through.specs.NodeNames.{NamedOpening, opening_of as all_creations}
+use Rattle.getting_through.specs.NamedWorld.{NamedWorld, NamedEvent, AtNode, Deliver, NamedRefusal, Plain, present_node, has_started, sender_to, plain, plain_refusal, plain_accepted, plain_events, named_refusal, named_answers, happens_named}
+use Rattle.getting_through.proofs.NamedRuns.{happens-plain}
 use Rattle.cluster_world.specs.Seats.{verdict_in}
 
 module _ (o : NamedOpening) (w : NamedWorld) where

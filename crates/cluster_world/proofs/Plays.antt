@@ -10,9 +10,9 @@ use Rattle.protocol_model.specs.Event.{Event as AnyEvent, Answer as AnyAnswer, R
 use Rattle.protocol_model.specs.Turn.{Turn, sent_to, begun}
 use Rattle.protocol_model.specs.Calling.{event}
 use Rattle.protocol_model.specs.World.{World, WorldEvent as AnyWorldEvent, in_world, other, refusal, accepted, run, answers, all_answers, turn_of, apply}
-use Rattle.moves.proofs.Sends.{sent_to-all}
-use Rattle.creations.specs.NamedWorld.{NamedWorld, NamedEvent, NamedRefusal, Plain, has_started, named_refusal, plain, present_after, accepted_named, happens_named, named_answers, after_events}
-use Rattle.creations.proofs.NamedRuns.{after_events-push}
+use Rattle.getting_through.proofs.Sends.{sent_to-all}
+use Rattle.getting_through.specs.NamedWorld.{NamedWorld, NamedEvent, NamedRefusal, Plain, has_started, named_refusal, plain, present_after, accepted_named, happens_named, named_answers, after_events}
+use Rattle.getting_through.proofs.NamedRuns.{after_events-push}
 use Rattle.term.specs.Nodes.{name_of}
 use Rattle.term.specs.NodeSets.{set_of, names_in, with_older}
 use Rattle.term.proofs.Older.{held}

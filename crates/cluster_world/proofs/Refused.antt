@@ -6,11 +6,11 @@ use Rattle.registry_model.proofs.Lists.{Contains-front, Contains-behind}
 use Rattle.protocol_model.specs.Node.{Node, Current}
 use Rattle.protocol_model.specs.Event.{is_waiting}
 use Rattle.protocol_model.specs.World.{left}
-use Rattle.creations.specs.NamedWorld.{running_nodes}
-use Rattle.creations.specs.Restarts.{IsUp}
-use Rattle.creations.proofs.Always.{always}
-use Rattle.creations.proofs.Running.{runs_listed, listed_runs, running_rise}
-use Rattle.creations.proofs.Standing.{Sound}
+use Rattle.getting_through.specs.NamedWorld.{running_nodes}
+use Rattle.getting_through.specs.Restarts.{IsUp}
+use Rattle.getting_through.proofs.Always.{always}
+use Rattle.getting_through.proofs.Running.{runs_listed, listed_runs, running_rise}
+use Rattle.getting_through.proofs.Standing.{Sound}
 use Rattle.getting_through.specs.NamedFinishing.{first_refused}
 use Rattle.getting_through.specs.QuietWorlds.{AtRest, Idle, Refused, Knocks, IsAtRest}
 use Rattle.term.specs.NodeSets.{set_of, with_older}

@@ -20,12 +20,12 @@ use Rattle.protocol_model.specs.Links.{Links}
 use Rattle.protocol_model.specs.Node.{Node}
 use Rattle.protocol_model.specs.Event.{last_u32}
 use Rattle.protocol_model.specs.World.{Opening, in_cluster}
-use Rattle.creations.specs.NodeNames.{NamedOpening, opening_of as all_creations}
-use Rattle.creations.specs.NamedWorld.{NamedWorld, Restart, next_node, named_refusal, happens_named, named_answers, after_events}
-use Rattle.creations.specs.Restarts.{fresh_node, who_left, StartsAnew}
-use Rattle.creations.proofs.NamedRuns.{after_events-push}
-use Rattle.creations.proofs.Always.{always, restarts_start_anew}
-use Rattle.creations.proofs.Standing.{Sound}
+use Rattle.getting_through.specs.NodeNames.{NamedOpening, opening_of as all_creations}
+use Rattle.getting_through.specs.NamedWorld.{NamedWorld, Restart, next_node, named_refusal, happens_named, named_answers, after_events}
+use Rattle.getting_through.specs.Restarts.{fresh_node, who_left, StartsAnew}
+use Rattle.getting_through.proofs.NamedRuns.{after_events-push}
+use Rattle.getting_through.proofs.Always.{always, restarts_start_anew}
+use Rattle.getting_through.proofs.Standing.{Sound}
 use Rattle.term.specs.Nodes.{text_in, name_of, creation_of, last_creation}
 use Rattle.term.specs.NodeSets.{IsNodeSet, most_nodes, set_of, with_older, succeeded}
 use Rattle.term.proofs.ExactNodes.{rising-unique}

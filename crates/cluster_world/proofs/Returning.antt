@@ -3,7 +3,7 @@ use Rattle.std.proofs.Common.{ℕ, true, false, ◌≡◌, ◌<◌, ◌+◌, Som
 use Rattle.std.specs.List.{All}
 use Rattle.std.proofs.Math.Seq.{take-append_seam}
 use Rattle.std.proofs.lemmas.List.{length-map, length-set, get_or-map, get_or_default}
-use Rattle.creations.specs.NamedWorld.{next_node}
+use Rattle.getting_through.specs.NamedWorld.{next_node}
 use Rattle.term.specs.Nodes.{name_of, text_in, creation_of, last_creation}
 use Rattle.term.specs.NodeSets.{set_of, with_older, succeeded}
 use Rattle.term.proofs.NodePlaces.{place-Some}

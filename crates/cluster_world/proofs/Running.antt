@@ -6,8 +6,8 @@ use Rattle.std.specs.declared.alloc.AllocError.{AllocError}
 use Rattle.std.proofs.lemmas.List.{append_assoc, append-nil, map-append}
 use Rattle.std.proofs.lemmas.List.Sums.{fold-append}
 use Rattle.protocol_model.specs.Event.{Answer as AnyAnswer}
-use Rattle.creations.specs.NodeNames.{NamedOpening}
-use Rattle.creations.specs.NamedWorld.{NamedWorld, NamedEvent, NamedRefusal, named_refusal, happens_named, named_answers, run_named}
+use Rattle.getting_through.specs.NodeNames.{NamedOpening}
+use Rattle.getting_through.specs.NamedWorld.{NamedWorld, NamedEvent, NamedRefusal, named_refusal, happens_named, named_answers, run_named}
 use Rattle.node_core.specs.declared.Answer.{Answer}
 use Rattle.node_core.specs.NodeEventsSeen.{answer_of}
 use Rattle.world_events.specs.declared.events.WorldEvent.{WorldEvent}

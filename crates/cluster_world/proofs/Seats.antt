@@ -3,8 +3,8 @@ use Rattle.std.proofs.Common.{ℕ, zero, suc, Bool, true, false, ◌≡◌, ◌<
 use Rattle.std.specs.Prelude.{Result, Ok, Err, IfErr, IsErrAnd, is_some, is_none, option_map, ◌&&◌, if◌then◌else◌}
 use Rattle.std.proofs.lemmas.List.{append_assoc, append-nil, map-append}
 use Rattle.protocol_model.specs.Event.{Event as AnyEvent, Answer as AnyAnswer, Refusal as AnyRefusal}
-use Rattle.creations.specs.NodeNames.{NamedOpening}
-use Rattle.creations.specs.NamedWorld.{NamedWorld, NamedEvent, NamedRefusal, Plain, named_refusal, happens_named, named_answers, run_named}
+use Rattle.getting_through.specs.NodeNames.{NamedOpening}
+use Rattle.getting_through.specs.NamedWorld.{NamedWorld, NamedEvent, NamedRefusal, Plain, named_refusal, happens_named, named_answers, run_named}
 use Rattle.node_core.specs.declared.Answer.{Answer}
 use Rattle.node_core.specs.declared.Call.{Call}
 use Rattle.node_core.specs.NodeEventsSeen.{answer_of, call_of, fault_of}

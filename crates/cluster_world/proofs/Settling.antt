@@ -2,12 +2,12 @@
 use Rattle.std.proofs.Common.{ℕ, zero, suc, Bool, true, false, ◌≡◌, ◌<◌, Option, Some, None, List, [], ◌∷◌, ◌++◌, get_or, length, refl, sym, ap, subst, ◌∙◌, arith}
 use Rattle.std.specs.Prelude.{MatchBool}
 use Rattle.std.proofs.lemmas.List.{length-map, map-append}
-use Rattle.creations.specs.NodeNames.{NamedOpening, opening_of as all_creations}
-use Rattle.creations.specs.NamedWorld.{NamedWorld, NamedEvent, named_refusal, happens_named, run_named, after_events}
-use Rattle.creations.specs.NamedScript.{next_named, named_deliveries_left}
-use Rattle.creations.specs.Restarts.{IsUp}
-use Rattle.creations.specs.NamedLeftovers.{NamesAreQuiet}
-use Rattle.creations.specs.Lifted.{events_played}
+use Rattle.getting_through.specs.NodeNames.{NamedOpening, opening_of as all_creations}
+use Rattle.getting_through.specs.NamedWorld.{NamedWorld, NamedEvent, named_refusal, happens_named, run_named, after_events}
+use Rattle.getting_through.specs.NamedScript.{next_named, named_deliveries_left}
+use Rattle.getting_through.specs.Restarts.{IsUp}
+use Rattle.getting_through.specs.NamedLeftovers.{NamesAreQuiet}
+use Rattle.getting_through.specs.Lifted.{events_played}
 use Rattle.getting_through.specs.Settling.{SettlesByName}
 use Rattle.getting_through.specs.Answering.{DeletionsAreAnswered}
 use Rattle.getting_through.specs.NamedNoDeadEnd.{named_work}

@@ -11,19 +11,19 @@ use Rattle.protocol_model.specs.Node.{LockCall, Target}
 use Rattle.protocol_model.specs.Event.{Call, Event, is_waiting_call}
 use Rattle.protocol_model.specs.ClientLocks.{Try, Tally, try_of, tried_again, waits_for_retry, last_try, is_won, gives, is_no_more, tally_after, tally_from}
 use Rattle.protocol_model.specs.World.{Opening, World, WorldEvent, At, Deliver, in_world, left, refusal, happens, accepted, answers, run}
-use Rattle.creations.proofs.Orders.{ordered_keeps}
-use Rattle.creations.proofs.Answering.{any_true}
-use Rattle.creations.proofs.Clients.{Numbers, call_at}
-use Rattle.creations.proofs.RoundNumbers
-use Rattle.creations.proofs.RoundNumbers.{round_count_after}
-use Rattle.creations.proofs.Tallies.{accepted_tried}
-use Rattle.creations.proofs.TriedEvents.{Tried}
-use Rattle.creations.proofs.Tries.{Fits, lost_without}
-use Rattle.creations.proofs.Walking.{event_keeps}
-use Rattle.creations.proofs.Together.{All}
+use Rattle.getting_through.proofs.Orders.{ordered_keeps}
+use Rattle.getting_through.proofs.Answering.{any_true}
+use Rattle.getting_through.proofs.Clients.{Numbers, call_at}
+use Rattle.getting_through.proofs.RoundNumbers
+use Rattle.getting_through.proofs.RoundNumbers.{round_count_after}
+use Rattle.getting_through.proofs.Tallies.{accepted_tried}
+use Rattle.getting_through.proofs.TriedEvents.{Tried}
+use Rattle.getting_through.proofs.Tries.{Fits, lost_without}
+use Rattle.getting_through.proofs.Walking.{event_keeps}
+use Rattle.getting_through.proofs.Together.{All}
 use Rattle.cluster_world.specs.Playing.{accepts_all}
-use Rattle.creations.specs.NodeNames.{NamedOpening, opening_of as all_creations}
-use Rattle.creations.specs.NamedWorld.{NamedWorld, NamedEvent, plain_events, named_refusal, happens_named}
+use Rattle.getting_through.specs.NodeNames.{NamedOpening, opening_of as all_creations}
+use Rattle.getting_through.specs.NamedWorld.{NamedWorld, NamedEvent, plain_events, named_refusal, happens_named}
 use Rattle.cluster_world.proofs.OneEvent.{IsOne, one_more}
 use Rattle.cluster_world.proofs.Winning.{is_plain, is_waited, is_named_waited, one_waited, waited_plain, waited_gives, grounds, Behind, happened, gone_before, counted_so, last_so, IsNow, now_up}
 

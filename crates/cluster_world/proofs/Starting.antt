@@ -12,8 +12,8 @@ use Rattle.protocol_model.specs.Letter.{Letter as AnyLetter}
 use Rattle.protocol_model.specs.Links.{Links, no_letters}
 use Rattle.protocol_model.specs.Node.{Node, opening_node}
 use Rattle.protocol_model.specs.World.{Opening, in_world, in_cluster}
-use Rattle.creations.specs.NodeNames.{opening_of as all_creations}
-use Rattle.creations.specs.NamedWorld.{NamedWorld, opening_named}
+use Rattle.getting_through.specs.NodeNames.{opening_of as all_creations}
+use Rattle.getting_through.specs.NamedWorld.{NamedWorld, opening_named}
 use Rattle.term.specs.Nodes.{IsFirst, text_in, name_of, creation_of}
 use Rattle.term.specs.NodeSets.{set_of, with_older, IsNodeSet}
 use Rattle.term.proofs.Older.{held}

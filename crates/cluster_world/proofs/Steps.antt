@@ -12,8 +12,8 @@ use Rattle.protocol_model.specs.Letter.{Letter as AnyLetter}
 use Rattle.protocol_model.specs.Links.{Links, posted}
 use Rattle.protocol_model.specs.Node.{Node}
 use Rattle.protocol_model.specs.World.{World, apply}
-use Rattle.creations.specs.NodeNames.{opening_of as all_creations}
-use Rattle.creations.specs.NamedWorld.{NamedWorld, NamedEvent, after_events}
+use Rattle.getting_through.specs.NodeNames.{opening_of as all_creations}
+use Rattle.getting_through.specs.NamedWorld.{NamedWorld, NamedEvent, after_events}
 use Rattle.term.specs.NodeSets.{IsNodeSet, set_of, with_older}
 use Rattle.term.proofs.NodePlaces.{place-Some}
 use Rattle.link.specs.Held.{place}

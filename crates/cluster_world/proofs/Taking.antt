@@ -15,10 +15,10 @@ use Rattle.protocol_model.specs.Calling.{event}
 use Rattle.protocol_model.specs.Turn.{Turn, sent_to, begun}
 use Rattle.protocol_model.specs.Reading.{receive}
 use Rattle.protocol_model.specs.World.{World, WorldEvent as AnyWorldEvent, in_world, other, refusal, accepted, turn_of, heard, apply, number_in, join_number}
-use Rattle.creations.specs.NamedWorld.{NamedWorld, Plain, has_started, present_node, sender_to, plain, plain_refusal, happens_named}
-use Rattle.creations.specs.Restarts.{IsUp, IsReplaced}
-use Rattle.creations.specs.JoinNumbers.{AreJoinNumbers}
-use Rattle.creations.proofs.NumbersRead.{join_numbers_suffice}
+use Rattle.getting_through.specs.NamedWorld.{NamedWorld, Plain, has_started, present_node, sender_to, plain, plain_refusal, happens_named}
+use Rattle.getting_through.specs.Restarts.{IsUp, IsReplaced}
+use Rattle.getting_through.specs.JoinNumbers.{AreJoinNumbers}
+use Rattle.getting_through.proofs.NumbersRead.{join_numbers_suffice}
 use Rattle.term.specs.Nodes.{name_of, text_in}
 use Rattle.term.specs.NodeSets.{set_of, with_older}
 use Rattle.term.proofs.Older.{held}

@@ -3,7 +3,7 @@ use Rattle.std.proofs.Common.{ℕ, true, ◌≡◌, ◌∙◌, Option, Some, Non
 use Rattle.std.specs.Prelude.{Result, Ok, Err, IfOk, IfErr}
 use Rattle.std.specs.Result.{result_err}
 use Rattle.registry_model.specs.Process.{Process}
-use Rattle.creations.specs.NamedWorld.{named_refusal}
+use Rattle.getting_through.specs.NamedWorld.{named_refusal}
 use Rattle.term.specs.declared.lock_id.LockId.{LockId}
 use Rattle.transaction.specs.declared.nodes.Nodes.{Nodes}
 use Rattle.transaction.specs.declared.nodes.Nodes.TheVariants.{All}

@@ -7,11 +7,11 @@ use Rattle.std.proofs.lemmas.List.Elements.{Contains-get_or}
 use Rattle.registry_model.specs.Process.{Nodes}
 use Rattle.protocol_model.specs.Node.{Node}
 use Rattle.protocol_model.specs.Event.{NoSuchNode}
-use Rattle.creations.specs.NodeNames.{is_name}
-use Rattle.creations.specs.NamedWorld.{NamedWorld, Plain, StillRunning, NotToldYet, CreationsSpent, Restart, present_node, named_refusal}
-use Rattle.creations.specs.Restarts.{IsUp, HasGone, AllAreTold, NodesStand, RestartSaysWhy}
-use Rattle.creations.proofs.Always.{nodes_always_stand}
-use Rattle.creations.proofs.Refusing.{restarts_say_why}
+use Rattle.getting_through.specs.NodeNames.{is_name}
+use Rattle.getting_through.specs.NamedWorld.{NamedWorld, Plain, StillRunning, NotToldYet, CreationsSpent, Restart, present_node, named_refusal}
+use Rattle.getting_through.specs.Restarts.{IsUp, HasGone, AllAreTold, NodesStand, RestartSaysWhy}
+use Rattle.getting_through.proofs.Always.{nodes_always_stand}
+use Rattle.getting_through.proofs.Refusing.{restarts_say_why}
 use Rattle.term.specs.Nodes.{IsFirst, text_in, name_of, creation_of, last_creation}
 use Rattle.term.specs.NodeSets.{set_of, names_in, with_older}
 use Rattle.term.proofs.Numbers.{name_of-first}

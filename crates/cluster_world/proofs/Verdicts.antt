@@ -3,7 +3,7 @@ use Rattle.std.proofs.Common.{ℕ, Bool, true, false, ◌==◌, ◌≡◌, ◌�
 use Rattle.std.specs.Prelude.{◌&&◌, ◌||◌, filter, if◌then◌else◌}
 use Rattle.registry_model.specs.Call.{Reply, True, is_reply}
 use Rattle.protocol_model.specs.Event.{Answer}
-use Rattle.creations.proofs.Answering.{any_true}
+use Rattle.getting_through.proofs.Answering.{any_true}
 use Rattle.cluster_world.specs.Counting.{is_granted}
 use Rattle.cluster_world.specs.Seats.{verdict_of, verdict_to, verdict_in}
 

@@ -11,14 +11,14 @@ use Rattle.registry_model.proofs.NodeLists.{are_nodes_below}
 use Rattle.protocol_model.specs.Links.{is_nil}
 use Rattle.protocol_model.specs.Event.{Refusal}
 use Rattle.protocol_model.specs.World.{in_world, left}
-use Rattle.creations.specs.NodeNames.{NamedOpening, first_nodes, name_of as any_name, opening_of as all_creations}
-use Rattle.creations.specs.NamedWorld.{NamedWorld, NamedEvent, Deliver, NamedRefusal, Plain, or_present, present_node, has_started, sender_to, named_refusal}
-use Rattle.creations.specs.NamedScript.{next_named}
-use Rattle.creations.proofs.Lists.{Rise, nodes_rise, find_least}
-use Rattle.creations.proofs.Numbers.{name-node}
-use Rattle.creations.proofs.StartedLists.{in_first, first_rises}
-use Rattle.creations.proofs.Standing.{Sound}
-use Rattle.creations.proofs.Always.{always}
+use Rattle.getting_through.specs.NodeNames.{NamedOpening, first_nodes, name_of as any_name, opening_of as all_creations}
+use Rattle.getting_through.specs.NamedWorld.{NamedWorld, NamedEvent, Deliver, NamedRefusal, Plain, or_present, present_node, has_started, sender_to, named_refusal}
+use Rattle.getting_through.specs.NamedScript.{next_named}
+use Rattle.getting_through.proofs.Lists.{Rise, nodes_rise, find_least}
+use Rattle.getting_through.proofs.Numbers.{name-node}
+use Rattle.getting_through.proofs.StartedLists.{in_first, first_rises}
+use Rattle.getting_through.proofs.Standing.{Sound}
+use Rattle.getting_through.proofs.Always.{always}
 use Rattle.term.specs.Nodes.{text_in, name_of}
 use Rattle.term.specs.NodeSets.{set_of, with_older, names_in}
 use Rattle.term.proofs.Numbers.{text_in-first_node}

@@ -11,17 +11,17 @@ use Rattle.protocol_model.specs.Letter.{Id, is_id}
 use Rattle.protocol_model.specs.Event.{Call, Event, Answer, Refusal}
 use Rattle.protocol_model.specs.ClientLocks.{Try, Tally, try_of, tried_again, waits_for_retry, last_try, is_won, gives, is_no_more, tallied, tally_after, tally_from}
 use Rattle.protocol_model.specs.World.{Opening, World, WorldEvent, At, Deliver, place, refusal, happens, accepted, answers, run, all_answers}
-use Rattle.creations.specs.NodeNames.{NamedOpening, opening_of as all_creations}
-use Rattle.creations.specs.NamedWorld.{NamedWorld, NamedEvent, NamedRefusal, present_node, sender_to, plain_events, named_refusal, named_answers, happens_named}
-use Rattle.creations.specs.NamedScript.{named_deliveries, next_named}
-use Rattle.creations.proofs.Walk.{OrderedWalk, walked_in_order}
-use Rattle.creations.proofs.Answering.{any_true}
-use Rattle.creations.proofs.Chains.{up_before}
-use Rattle.creations.proofs.Clients.{Numbers}
-use Rattle.creations.proofs.RoundNumbers.{round_count_after}
-use Rattle.creations.proofs.Told.{chain_of}
-use Rattle.creations.proofs.Walking.{Grounds, State, event_keeps}
-use Rattle.creations.proofs.Together.{All, all_opens, all_keeps, widens}
+use Rattle.getting_through.specs.NodeNames.{NamedOpening, opening_of as all_creations}
+use Rattle.getting_through.specs.NamedWorld.{NamedWorld, NamedEvent, NamedRefusal, present_node, sender_to, plain_events, named_refusal, named_answers, happens_named}
+use Rattle.getting_through.specs.NamedScript.{named_deliveries, next_named}
+use Rattle.getting_through.proofs.Walk.{OrderedWalk, walked_in_order}
+use Rattle.getting_through.proofs.Answering.{any_true}
+use Rattle.getting_through.proofs.Chains.{up_before}
+use Rattle.getting_through.proofs.Clients.{Numbers}
+use Rattle.getting_through.proofs.RoundNumbers.{round_count_after}
+use Rattle.getting_through.proofs.Told.{chain_of}
+use Rattle.getting_through.proofs.Walking.{Grounds, State, event_keeps}
+use Rattle.getting_through.proofs.Together.{All, all_opens, all_keeps, widens}
 use Rattle.cluster_world.specs.Counting.{is_granted, has_to_ask, unless_gone}
 use Rattle.cluster_world.specs.Seats.{verdict_in, next_for, awaiting}
 use Rattle.cluster_world.proofs.OneEvent.{IsOne, one_at, one_delivered, one_then}

@@ -3,9 +3,9 @@ use Rattle.std.specs.Prelude.{ℕ, ◌≡◌, List, ◌++◌, map}
 use Rattle.protocol_model.specs.World.{Opening, World, WorldEvent as AnyWorldEvent, opening_world, run}
 use Rattle.protocol_model.specs.Course.{course, answers_of, seen as shown}
 use Rattle.protocol_model.specs.Headline.{Headline}
-use Rattle.creations.specs.NodeNames.{NamedOpening}
-use Rattle.creations.specs.NamedWorld.{NamedEvent, after_events, as_events}
-use Rattle.creations.specs.Lifted.{events_played}
+use Rattle.getting_through.specs.NodeNames.{NamedOpening}
+use Rattle.getting_through.specs.NamedWorld.{NamedEvent, after_events, as_events}
+use Rattle.getting_through.specs.Lifted.{events_played}
 use Rattle.node_core.specs.declared.Answer.{Answer}
 use Rattle.node_core.specs.NodeEventsSeen.{answer_of}
 use Rattle.world_events.specs.declared.events.WorldEvent.{WorldEvent}

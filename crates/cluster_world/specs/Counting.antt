@@ -8,7 +8,7 @@ use Rattle.protocol_model.specs.Node.{Target, targets}
 use Rattle.protocol_model.specs.World.{World}
 use Rattle.world_events.specs.declared.events.WorldEvent.{WorldEvent}
 use Rattle.cluster_world.specs.Held.{Held}
-use Rattle.creations.specs.NamedWorld.{NamedEvent, as_events}
+use Rattle.getting_through.specs.NamedWorld.{NamedEvent, as_events}
 use Rattle.cluster_world.specs.Seen.{names_of, opening_of, seen}
 use Rattle.cluster_world.specs.Playing.{events_of}
 use Rattle.cluster_world.specs.Agreeing.{IsRunOf}

@@ -2,9 +2,9 @@
 -- retried, and so on until there is none.
 use Rattle.std.specs.Prelude.{ℕ, zero, suc, Bool, not, ◌&&◌, ◌≡◌, is_some, is_none, Option, Some, None, List, [], ◌∷◌}
 use Rattle.protocol_model.specs.Event.{Event}
-use Rattle.creations.specs.NodeNames.{NamedOpening}
-use Rattle.creations.specs.NamedWorld.{NamedWorld, NamedEvent, AtNode, named_refusal, happens_named}
-use Rattle.creations.specs.NamedScript.{next_named}
+use Rattle.getting_through.specs.NodeNames.{NamedOpening}
+use Rattle.getting_through.specs.NamedWorld.{NamedWorld, NamedEvent, AtNode, named_refusal, happens_named}
+use Rattle.getting_through.specs.NamedScript.{next_named}
 use Rattle.getting_through.specs.NamedFinishing.{first_refused}
 use Rattle.getting_through.specs.NamedGettingFree.{NamesLeadOn}
 use Rattle.term.specs.NodeSets.{with_older}

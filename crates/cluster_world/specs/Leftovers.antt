@@ -2,8 +2,8 @@
 use Rattle.std.specs.Prelude.{ℕ, List, ◌++◌}
 use Rattle.protocol_model.specs.Leftovers.{NothingIsLeft, world}
 use Rattle.protocol_model.specs.World.{WorldEvent as AnyWorldEvent}
-use Rattle.creations.specs.NamedWorld.{NamedEvent}
-use Rattle.creations.specs.NamedLeftovers.{NothingIsLeftOfNames}
+use Rattle.getting_through.specs.NamedWorld.{NamedEvent}
+use Rattle.getting_through.specs.NamedLeftovers.{NothingIsLeftOfNames}
 use Rattle.world_events.specs.declared.events.WorldEvent.{WorldEvent}
 use Rattle.cluster_world.specs.Held.{Held}
 use Rattle.world_events.specs.Openings.{opening_with}

@@ -1,8 +1,8 @@
-pub use Rattle.creations.specs.NodeNames
-pub use Rattle.creations.specs.NamedWorld
-pub use Rattle.creations.specs.NamedScript
-pub use Rattle.creations.specs.NamedLeftovers
-pub use Rattle.creations.specs.NobodyBack
+pub use Rattle.getting_through.specs.NodeNames
+pub use Rattle.getting_through.specs.NamedWorld
+pub use Rattle.getting_through.specs.NamedScript
+pub use Rattle.getting_through.specs.NamedLeftovers
+pub use Rattle.getting_through.specs.NobodyBack
 pub use Rattle.node_core.specs.Held as NodeCoreHeld
 pub use Rattle.node_core.specs.NodeEventsSeen
 pub use Rattle.node_core.specs.Seen as NodeCoreSeen

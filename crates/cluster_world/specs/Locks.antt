@@ -8,8 +8,8 @@ use Rattle.protocol_model.specs.World.{Opening, World, WorldEvent as AnyWorldEve
 use Rattle.world_events.specs.declared.events.WorldEvent.{WorldEvent}
 use Rattle.cluster_world.specs.Held.{Held}
 use Rattle.world_events.specs.Openings.{opening_with}
-use Rattle.creations.specs.NamedWorld.{NamedEvent, as_events}
-use Rattle.creations.specs.NamedQuietCalls.{NamedQuietCalls}
+use Rattle.getting_through.specs.NamedWorld.{NamedEvent, as_events}
+use Rattle.getting_through.specs.NamedQuietCalls.{NamedQuietCalls}
 use Rattle.cluster_world.specs.Seen.{names_of, opening_of, seen, named}
 use Rattle.cluster_world.specs.Playing.{events_of}
 use Rattle.cluster_world.specs.Agreeing.{IsRunOf}

@@ -4,7 +4,7 @@ use Rattle.std.specs.List.{list_any}
 use Rattle.registry_model.specs.Process.{Nodes}
 use Rattle.protocol_model.specs.Event.{last_u32}
 use Rattle.term.specs.Nodes.{text_in, creation_of}
-use Rattle.creations.specs.NodeNames.{NamedOpening}
+use Rattle.getting_through.specs.NodeNames.{NamedOpening}
 
 -- above the texts of the names of these nodes
 abbrev pub name_bound : List ℕ → ℕ

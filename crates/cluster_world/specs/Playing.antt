@@ -2,9 +2,9 @@
 use Rattle.std.specs.Prelude.{ℕ, Bool, true, ◌&&◌, ◌≡◌, ◌≤◌, Option, Some, None, is_none, List, [], ◌∷◌, ◌++◌, map, take, length}
 use Rattle.std.specs.List.{slice_get}
 use Rattle.protocol_model.specs.Event.{Answer as AnyAnswer}
-use Rattle.creations.specs.NodeNames.{NamedOpening}
-use Rattle.creations.specs.NamedWorld.{NamedWorld, NamedEvent, Deliver, named_refusal, happens_named, named_answers, run_named}
-use Rattle.creations.specs.NamedScript.{next_named}
+use Rattle.getting_through.specs.NodeNames.{NamedOpening}
+use Rattle.getting_through.specs.NamedWorld.{NamedWorld, NamedEvent, Deliver, named_refusal, happens_named, named_answers, run_named}
+use Rattle.getting_through.specs.NamedScript.{next_named}
 use Rattle.term.specs.Nodes.{text_in}
 use Rattle.node_core.specs.declared.Answer.{Answer}
 use Rattle.node_core.specs.NodeEventsSeen.{answer_of}

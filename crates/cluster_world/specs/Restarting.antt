@@ -1,6 +1,6 @@
 -- A name comes back: what its next node takes over, which is its place alone, and what is entered of it.
 use Rattle.std.specs.Prelude.{ℕ, true, false, ◌≡◌, Option, None, Some, ◌<◌, List, [], ◌∷◌, ◌++◌, Contains, if◌then◌else◌}
-use Rattle.creations.specs.NamedWorld.{next_node}
+use Rattle.getting_through.specs.NamedWorld.{next_node}
 use Rattle.term.specs.Nodes.{text_in}
 use Rattle.term.specs.NodeSets.{set_of, with_older, succeeded}
 use Rattle.node_core.specs.Held.{Held as Core}

@@ -4,9 +4,9 @@ use Rattle.registry_model.specs.Process.{Process}
 use Rattle.registry_model.specs.Call.{Reply as AnyReply, True, False}
 use Rattle.protocol_model.specs.Event.{Event as AnyEvent, Answer as AnyAnswer}
 use Rattle.protocol_model.specs.World.{World}
-use Rattle.creations.specs.NodeNames.{NamedOpening}
-use Rattle.creations.specs.NamedWorld.{NamedWorld, NamedEvent, named_refusal, happens_named, named_answers}
-use Rattle.creations.specs.NamedScript.{next_named}
+use Rattle.getting_through.specs.NodeNames.{NamedOpening}
+use Rattle.getting_through.specs.NamedWorld.{NamedWorld, NamedEvent, named_refusal, happens_named, named_answers}
+use Rattle.getting_through.specs.NamedScript.{next_named}
 use Rattle.transaction.specs.Calls.{is_named}
 use Rattle.transaction.specs.declared.reply.LockReply.{LockReply}
 use Rattle.node_core.specs.declared.Answer.{Answer}

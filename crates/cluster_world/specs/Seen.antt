@@ -4,8 +4,8 @@ use Rattle.protocol_model.specs.Letter.{Letter as AnyLetter}
 use Rattle.protocol_model.specs.Links.{Links}
 use Rattle.protocol_model.specs.Node.{Node, opening_node, holds_global}
 use Rattle.protocol_model.specs.World.{Opening, in_world, in_cluster, World}
-use Rattle.creations.specs.NodeNames.{NamedOpening, opening_of as all_creations}
-use Rattle.creations.specs.NamedWorld.{NamedWorld}
+use Rattle.getting_through.specs.NodeNames.{NamedOpening, opening_of as all_creations}
+use Rattle.getting_through.specs.NamedWorld.{NamedWorld}
 use Rattle.term.specs.NodeSets.{with_older}
 use Rattle.node_core.specs.Held.{Held as Core}
 use Rattle.node_core.specs.Letters.{letter_of}

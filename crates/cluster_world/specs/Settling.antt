@@ -1,10 +1,10 @@
 -- The deliveries of a `settle`, one by one, and all of them.
 use Rattle.std.specs.Prelude.{ℕ, ◌≡◌, ◌<◌, Option, Some, None, List, [], ◌∷◌, ◌++◌}
-use Rattle.creations.specs.NodeNames.{NamedOpening}
-use Rattle.creations.specs.NamedWorld.{NamedWorld, NamedEvent, named_refusal, happens_named}
-use Rattle.creations.specs.NamedScript.{next_named}
-use Rattle.creations.specs.Restarts.{IsUp}
-use Rattle.creations.specs.Lifted.{events_played}
+use Rattle.getting_through.specs.NodeNames.{NamedOpening}
+use Rattle.getting_through.specs.NamedWorld.{NamedWorld, NamedEvent, named_refusal, happens_named}
+use Rattle.getting_through.specs.NamedScript.{next_named}
+use Rattle.getting_through.specs.Restarts.{IsUp}
+use Rattle.getting_through.specs.Lifted.{events_played}
 use Rattle.getting_through.specs.Answering.{DeletionsAreAnswered}
 use Rattle.getting_through.specs.NamedNoDeadEnd.{named_work}
 use Rattle.getting_through.specs.QuietWorlds.{IsAtRest}

@@ -1,6 +1,6 @@
 -- The step of one node within its world.
 use Rattle.std.specs.Prelude.{ℕ, ◌≡◌, ◌≤◌, Some, None, List, length, slice_index_or}
-use Rattle.creations.specs.NamedWorld.{named_refusal}
+use Rattle.getting_through.specs.NamedWorld.{named_refusal}
 use Rattle.term.specs.Nodes.{name_of}
 use Rattle.link.specs.Held.{place}
 use Rattle.node_core.specs.declared.Answer.{Answer}

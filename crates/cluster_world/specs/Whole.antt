@@ -3,7 +3,7 @@ use Rattle.std.specs.Prelude.{true, false, ◌≡◌, List, map}
 use Rattle.std.specs.List.{All}
 use Rattle.term.specs.Nodes.{IsFirst}
 use Rattle.term.specs.NodeSets.{IsNodeSet, set_of, with_older}
-use Rattle.creations.specs.NamedWorld.{NamedEvent, after_events}
+use Rattle.getting_through.specs.NamedWorld.{NamedEvent, after_events}
 use Rattle.cluster_world.specs.Held.{Held, nodes_of}
 use Rattle.cluster_world.specs.Links.{AreFit}
 use Rattle.cluster_world.specs.Mail.{links_of}

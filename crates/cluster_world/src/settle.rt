@@ -1,7 +1,7 @@
 //! Worlds that are settled, and finished.
 ghost use Rattle.std.specs.Prelude.{◌≡◌, IfOk, IfErr, OnOk, OnErr, MatchBool, None};
 ghost use Rattle.getting_through.specs.NamedFinishing.{first_refused};
-ghost use Rattle.creations.specs.NamedScript.{next_named};
+ghost use Rattle.getting_through.specs.NamedScript.{next_named};
 ghost use Rattle.cluster_world.specs.Playing.{Keeps, WaitsOn};
 ghost use Rattle.cluster_world.specs.Finishing.{seems_refused, next_to_finish, RetriesInto, HasMore, Finishes, StopsFinishing};
 ghost use Rattle.cluster_world.specs.Seen.{names_of, named};

@@ -1,8 +1,8 @@
 //! How a world is started.
 ghost use Rattle.std.specs.Prelude.{◌≡◌, [], None, map, IfOk, IfErr};
 ghost use Rattle.std.specs.List.{All};
-ghost use Rattle.creations.specs.NamedLeftovers.{NothingIsLeftOfNames};
-ghost use Rattle.creations.specs.NamedWorld.{opening_named};
+ghost use Rattle.getting_through.specs.NamedLeftovers.{NothingIsLeftOfNames};
+ghost use Rattle.getting_through.specs.NamedWorld.{opening_named};
 ghost use Rattle.term.specs.Nodes.{IsFirst};
 ghost use Rattle.term.specs.NodeSets.{IsNodeSet};
 ghost use Rattle.world_events.specs.Openings.{opening_core, start_refused, start_fault_of};

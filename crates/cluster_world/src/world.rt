@@ -158,7 +158,7 @@ impl<N: Names<Memory = Global>> World<N> {
     ghost use Rattle.std.specs.Prelude.{ℕ, true, false, [], ◌∷◌, Some, None, take, is_some, IfOk, IfErr, IfSome, MatchOption};
     ghost use Rattle.std.specs.Option.{option_copied};
     ghost use Rattle.protocol_model.specs.World.{holder, left};
-    ghost use Rattle.creations.specs.NamedWorld.{present_node};
+    ghost use Rattle.getting_through.specs.NamedWorld.{present_node};
     ghost use Rattle.cluster_world.specs.NodeCoreHeld.{AreOf, HaveLeft};
     ghost use Rattle.term.specs.Nodes.{IsFirst, name_of, text_in};
     ghost use Rattle.term.specs.NodeSets.{set_of, names_in};

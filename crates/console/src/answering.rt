@@ -219,8 +219,9 @@ fn exit_all<H, A: Attendant<H>>(rt: &H, attendant: &mut A, links: &Links)
 ///
 /// A line that asks something is asked of the attendant, and answered with the text of the reply or the word of the refusal;
 /// any other is refused, an empty one too. What was answered is handed on before the console waits: for a further line where none is at
-/// hand, or for a lock. Behind the last line nothing is held back but by `TooManyLines`. `Read` and `TooManyLines`:
-/// all lines that were read are answered. `Write` and `Memory`: a part of the answers is written, and nothing behind it.
+/// hand, or for a lock. An answer that ends the console is handed on at once; where a fault ends it, answers that were written may not be
+/// handed on yet. `Read` and `TooManyLines`: all lines that were read are answered. `Write` and `Memory`: a part of the answers is written,
+/// and nothing behind it.
 ///
 /// `spawn_link` asks for a process that is linked to the console until its exit. However the console ends, each process that is
 /// linked then is asked to exit, in the order in which they were linked, before this returns.

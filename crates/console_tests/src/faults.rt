@@ -86,7 +86,8 @@ fn writers_fail_at_each_point(rt: HostRuntime) {
     }
 }
 
-/// Whether a writer that hands on its answers so often ends the console behind the next one.
+/// Whether a writer that takes all and hands it on so often ends the console, and was given these bytes until then. Answers to lines that came
+/// in one piece are handed on together.
 fn stays_behind(alloc: Global, flushes: usize, text: &[u8]) -> bool {
     let mut writer = Shy {
         taken: Vec::new(alloc),
@@ -98,5 +99,5 @@ fn stays_behind(alloc: Global, flushes: usize, text: &[u8]) -> bool {
 #[test]
 fn answers_that_stay_behind_are_faults(rt: HostRuntime) {
     assert!(rt; stays_behind(rt.alloc(), 0, b""));
-    assert!(rt; stays_behind(rt.alloc(), 1, b"a.1\n"));
+    assert!(rt; stays_behind(rt.alloc(), 1, TEXT));
 }

@@ -188,7 +188,7 @@ module _ (o : NamedOpening) (es : List NamedEvent) where
   listed c = is_listed O (LeftOfNames.gone o es) (LeftOfNames.distinct_gone o es) late c
 
   -- the world as it was and the one in which all were told are alike
-  alike : Alike O S w.world u
+  pub alike : Alike O S w.world u
   alike = record {
     node = λ a e. (LeftOfNames.caught o es).others a (started_is_other a e);
     number = λ a. elim (listed a) [

@@ -1,3 +1,4 @@
+pub use Rattle.lock_answers.specs.Clauses
 pub mod NodeNames
 pub mod NamedWorld
 pub mod Restarts

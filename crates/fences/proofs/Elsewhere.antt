@@ -17,8 +17,8 @@ use Rattle.protocol_model.proofs.Courses.{run-append}
 use Rattle.protocol_model.proofs.Finding.{none_found_in}
 use Rattle.protocol_model.proofs.Waiting.{accepted-node}
 use Rattle.closings.specs.Merging.{Step, happening, events_in, world_behind, TakesAll}
-use Rattle.lock_answers.proofs.Events.{accepted_of, lock_tested, live_own}
-use Rattle.lock_answers.proofs.Pushed.{happens_now, answer_place}
+use Rattle.walk.proofs.Events.{accepted_of, lock_tested, live_own}
+use Rattle.creations.proofs.Pushed.{happens_now, answer_place}
 use Rattle.creations.proofs.Growing.{left_by}
 use Rattle.creations.proofs.NamedRuns.{tally-append}
 use Rattle.fences.proofs.Orders.{AreElsewhere}

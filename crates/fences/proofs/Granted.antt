@@ -12,9 +12,9 @@ use Rattle.protocol_model.specs.Leftovers.{world}
 use Rattle.protocol_model.specs.World.{Opening, WorldEvent, opening_world, refusal, happens, answers}
 use Rattle.protocol_model.proofs.Finding.{found_any}
 use Rattle.protocol_model.proofs.Ids.{is_id_self}
-use Rattle.lock_answers.proofs.LastTry.{last_of, last_by, last_of_tries, tries_behind}
-use Rattle.lock_answers.proofs.LastCalls.{IsSet, is_set}
-use Rattle.lock_answers.proofs.Living.{answers_the_living}
+use Rattle.creations.proofs.LastTry.{last_of, last_by, last_of_tries, tries_behind}
+use Rattle.creations.proofs.LastCalls.{IsSet, is_set}
+use Rattle.creations.proofs.Living.{answers_the_living}
 use Rattle.fences.specs.Grants.{true_to}
 use Rattle.fences.proofs.Elsewhere.{tally, tally_push, counted}
 

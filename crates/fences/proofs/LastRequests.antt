@@ -9,16 +9,16 @@ use Rattle.protocol_model.specs.LockTable.{count}
 use Rattle.protocol_model.specs.ClientLocks.{holds_count}
 use Rattle.protocol_model.specs.World.{Opening, World, WorldEvent, in_world, left, opening_world, accepted, run}
 use Rattle.closings.specs.Merging.{Step, happening, events_in, world_behind, Takes, TakesAll}
-use Rattle.leftovers.proofs.Clients.{Numbers, lives, Clients}
-use Rattle.leftovers.proofs.Grounds.{Base, lock_state}
-use Rattle.leftovers.proofs.HeadlineClients.{grounds}
-use Rattle.leftovers.proofs.Mail.{asks}
-use Rattle.leftovers.proofs.RoundNumbers
-use Rattle.leftovers.proofs.Sessions.{settled_le}
-use Rattle.leftovers.proofs.Tallies.{numbers_agree}
-use Rattle.leftovers.proofs.Together.{All}
-use Rattle.lock_answers.proofs.GrantEvents.{ground_run}
-use Rattle.lock_answers.proofs.Pushed.{happens_now}
+use Rattle.creations.proofs.Clients.{Numbers, lives, Clients}
+use Rattle.creations.proofs.Grounds.{Base, lock_state}
+use Rattle.creations.proofs.HeadlineClients.{grounds}
+use Rattle.creations.proofs.Mail.{asks}
+use Rattle.creations.proofs.RoundNumbers
+use Rattle.creations.proofs.Sessions.{settled_le}
+use Rattle.creations.proofs.Tallies.{numbers_agree}
+use Rattle.creations.proofs.Together.{All}
+use Rattle.creations.proofs.GrantEvents.{ground_run}
+use Rattle.creations.proofs.Pushed.{happens_now}
 use Rattle.fences.specs.Grants.{takes_request}
 use Rattle.fences.proofs.Elsewhere.{world_push}
 use Rattle.fences.proofs.Orders.{takes_behind, takes_front}

@@ -11,20 +11,20 @@ use Rattle.protocol_model.specs.Registrar.{start}
 use Rattle.protocol_model.specs.Reading.{judge}
 use Rattle.protocol_model.specs.LockAnswers.{is_asked_first}
 use Rattle.protocol_model.specs.World.{Opening, World, left, WorldEvent, At, Deliver, place, refusal, join_number, heard, letter_taken, accepted, turn_of}
-use Rattle.moves.proofs.Indices.{both}
-use Rattle.moves.proofs.Rules
-use Rattle.moves.proofs.Rules.{Rule, May, MayAll, effect, effects}
+use Rattle.creations.proofs.Indices.{both}
+use Rattle.creations.proofs.Rules
+use Rattle.creations.proofs.Rules.{Rule, May, MayAll, effect, effects}
 use Rattle.walk.proofs.Chains.{LeaveLocks, TakeGone, is_gone_by}
 use Rattle.walk.proofs.ChainKinds.{leaves_locks}
-use Rattle.leftovers.proofs.Walk.{OrderedWalk, walked_in_order}
-use Rattle.leftovers.proofs.Told.{chain_of}
-use Rattle.leftovers.proofs.Ids.{is_process_same}
-use Rattle.leftovers.proofs.Clients.{lives}
-use Rattle.leftovers.proofs.Serving.{front_named}
-use Rattle.leftovers.proofs.Grounds.{Base, base_keeps, wide}
-use Rattle.lock_answers.proofs.Besides.{start_adds}
-use Rattle.lock_answers.proofs.Settled.{node_ran, process_lived}
-use Rattle.lock_answers.proofs.Spared.{is_lock_answer}
+use Rattle.walk.proofs.Walk.{OrderedWalk, walked_in_order}
+use Rattle.creations.proofs.Told.{chain_of}
+use Rattle.creations.proofs.Ids.{is_process_same}
+use Rattle.creations.proofs.Clients.{lives}
+use Rattle.creations.proofs.Serving.{front_named}
+use Rattle.creations.proofs.Grounds.{Base, base_keeps, wide}
+use Rattle.creations.proofs.Besides.{start_adds}
+use Rattle.creations.proofs.Settled.{node_ran, process_lived}
+use Rattle.creations.proofs.Spared.{is_lock_answer}
 use Rattle.fences.specs.Grants.{takes_request}
 use Rattle.fences.proofs.Settling.{settles, is_taking, rule_eases}
 

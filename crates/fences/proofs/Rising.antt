@@ -4,7 +4,7 @@ use Rattle.std.specs.Prelude.{◌⊎◌}
 use Rattle.protocol_model.specs.World.{Opening, in_world, World, opening_world, run}
 use Rattle.closings.specs.Merging.{Step, is_before, happening, events_in, world_behind, Takes, TakesAll}
 use Rattle.closings.proofs.Merged.{consistent_ends_play}
-use Rattle.lock_answers.proofs.Events.{accepted_of}
+use Rattle.walk.proofs.Events.{accepted_of}
 use Rattle.fences.specs.Grants.{IsRun, fence}
 use Rattle.fences.specs.Laws.{MergedEndsAreRuns, FencesRise, OwnFencesRise}
 use Rattle.fences.proofs.Numbers.{by_stamp, by_place}

@@ -9,18 +9,18 @@ use Rattle.protocol_model.specs.Letter.{Id, is_id, Letter}
 use Rattle.protocol_model.specs.LockTable.{Locks, count, is_free_for, grant, give_back}
 use Rattle.protocol_model.specs.Node.{Node}
 use Rattle.protocol_model.specs.World.{Opening, World, left}
-use Rattle.moves.proofs.Rules
-use Rattle.moves.proofs.Rules.{Rule, Taken, May, awaits, effect, turn_by}
-use Rattle.moves.proofs.Invariants.{Proper, IsProper, Each}
-use Rattle.leftovers.proofs.Ids.{is_process_same, is_process_swap}
-use Rattle.leftovers.proofs.LockTables.{pair_off, count-grant, count-grant_other, count-give_back, count-give_back_other, count-drop_holder, count-drop_node}
-use Rattle.leftovers.proofs.Sessions.{Ask, Takes, Backs, Acks, Frees, view, settled, settled_le, settled-append, fits}
-use Rattle.leftovers.proofs.SessionMoves.{no_free_front}
-use Rattle.leftovers.proofs.Mail.{ask_of, asks, echoes, Moved, all_moved, read_on, sent_on, turned, links_moved}
-use Rattle.leftovers.proofs.Clients.{Numbers, lives, IsLive, live_parts, call_at, Clients}
-use Rattle.leftovers.proofs.Serving.{front_named}
-use Rattle.leftovers.proofs.Parts.{locks_by, parts}
-use Rattle.lock_answers.proofs.Settled.{node_ran}
+use Rattle.creations.proofs.Rules
+use Rattle.creations.proofs.Rules.{Rule, Taken, May, awaits, effect, turn_by}
+use Rattle.creations.proofs.Invariants.{Proper, IsProper, Each}
+use Rattle.creations.proofs.Ids.{is_process_same, is_process_swap}
+use Rattle.creations.proofs.LockTables.{pair_off, count-grant, count-grant_other, count-give_back, count-give_back_other, count-drop_holder, count-drop_node}
+use Rattle.creations.proofs.Sessions.{Ask, Takes, Backs, Acks, Frees, view, settled, settled_le, settled-append, fits}
+use Rattle.creations.proofs.SessionMoves.{no_free_front}
+use Rattle.creations.proofs.Mail.{ask_of, asks, echoes, Moved, all_moved, read_on, sent_on, turned, links_moved}
+use Rattle.creations.proofs.Clients.{Numbers, lives, IsLive, live_parts, call_at, Clients}
+use Rattle.creations.proofs.Serving.{front_named}
+use Rattle.creations.proofs.Parts.{locks_by, parts}
+use Rattle.creations.proofs.Settled.{node_ran}
 
 -- more settles to more
 one_less : (b : Bool) (m n : ℕ) → m ≤ n → (if b then m - 1 else m) ≤ (if b then n - 1 else n)

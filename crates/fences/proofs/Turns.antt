@@ -12,12 +12,12 @@ use Rattle.protocol_model.specs.ClientLocks.{is_no_more, holds_count}
 use Rattle.protocol_model.specs.LockAnswers.{tries_of}
 use Rattle.protocol_model.specs.World.{Opening, in_world, World, WorldEvent, opening_world, answers}
 use Rattle.closings.specs.Merging.{Step, IsInOrder, happening, events_in, world_behind, Takes, TakesAll}
-use Rattle.moves.proofs.Indices.{both}
-use Rattle.leftovers.proofs.LockTables.{one_requester}
-use Rattle.lock_answers.proofs.ClientLocks.{client_locks}
-use Rattle.lock_answers.proofs.GrantEvents.{ground_run}
-use Rattle.lock_answers.proofs.Nothing.{nothing_is_left}
-use Rattle.lock_answers.proofs.Pushed.{answers_turn, answer_place}
+use Rattle.creations.proofs.Indices.{both}
+use Rattle.creations.proofs.LockTables.{one_requester}
+use Rattle.creations.proofs.ClientLocks.{client_locks}
+use Rattle.creations.proofs.GrantEvents.{ground_run}
+use Rattle.creations.proofs.Nothing.{nothing_is_left}
+use Rattle.creations.proofs.Pushed.{answers_turn, answer_place}
 use Rattle.fences.specs.Grants.{IsRun, fence, ArePlaces, true_to, Grant, up_to, held, RunsAt, IsRequested, IsLater, AreRivals, ComesFirst, StandsAt, takes_request}
 use Rattle.fences.specs.Laws.{GrantsAreRequested, LaterGrantsAreGreater, GrantsAreInTurn}
 use Rattle.fences.proofs.Numbers.{by_stamp}
@@ -25,7 +25,7 @@ use Rattle.fences.proofs.Orders.{order_behind, order_front, takes_behind, takes_
 use Rattle.fences.proofs.Elsewhere.{events_push, world_push, kept}
 use Rattle.fences.proofs.Granted as Granted
 use Rattle.protocol_model.proofs.Finding.{found_any}
-use Rattle.lock_answers.proofs.Spared.{is_lock_answer}
+use Rattle.creations.proofs.Spared.{is_lock_answer}
 use Rattle.fences.proofs.Requests.{takes_silent}
 use Rattle.fences.proofs.LastRequests.{Along, along_at, along_step, Stands, TakesNone, Found, last_request}
 use Rattle.fences.proofs.Rising.{node_inside}

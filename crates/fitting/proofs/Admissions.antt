@@ -13,8 +13,8 @@ use Rattle.protocol_model.specs.Event.{Answer}
 use Rattle.protocol_model.specs.Client.{is_spent}
 use Rattle.protocol_model.specs.Answers.{answer_to, is_admission_of}
 use Rattle.protocol_model.specs.World.{Opening, World, join_number}
-use Rattle.moves.proofs.Rules
-use Rattle.moves.proofs.Invariants.{current, standing_at, Replicas, IsWritten}
+use Rattle.join_gates.proofs.Rules
+use Rattle.join_gates.proofs.Invariants.{current, standing_at, Replicas, IsWritten}
 use Rattle.join_gates.proofs.Made.{entered, answered, answer_of, entries_made, answers_made}
 use Rattle.join_gates.proofs.Tokens.{Gate, Entering, is_entering, returns}
 use Rattle.join_gates.proofs.Gates.{Gates}

@@ -10,7 +10,7 @@ use Rattle.protocol_model.specs.Event.{Call, Event}
 use Rattle.protocol_model.specs.Fit.{Numbered, is_numbered, numbered, calls_in, number_from}
 use Rattle.protocol_model.specs.World.{Opening, World, WorldEvent, At, Deliver, place}
 use Rattle.protocol_model.specs.Course.{played}
-use Rattle.moves.proofs.Rules
+use Rattle.join_gates.proofs.Rules
 use Rattle.registry_model.proofs.Updates.{by_test}
 use Rattle.fitting.proofs.Working.{accepted_by}
 use Rattle.fitting.proofs.Numbers.{takes_number, accepted_along, quiet_along, quiet_last, last_call_by}

@@ -8,8 +8,8 @@ use Rattle.protocol_model.specs.Event.{Answer, Refusal}
 use Rattle.protocol_model.specs.Fit.{Numbered, calls_in, number_from, accepted_at, decided_at, IsPrefix}
 use Rattle.protocol_model.specs.World.{Opening, World, WorldEvent, place, opening_world, turn_of, refusal, accepted, happens, run}
 use Rattle.protocol_model.specs.Course.{Played, played, course, entries_of, answers_of}
-use Rattle.moves.proofs.Rules
-use Rattle.moves.proofs.Invariants.{Proper, Replicas}
+use Rattle.join_gates.proofs.Rules
+use Rattle.join_gates.proofs.Invariants.{Proper, Replicas}
 use Rattle.join_gates.proofs.Gates.{Joins}
 use Rattle.join_gates.proofs.Still.{effect-history}
 use Rattle.join_gates.proofs.Shown.{LoneOwners}

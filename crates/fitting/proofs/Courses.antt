@@ -10,7 +10,7 @@ use Rattle.protocol_model.specs.World.{Opening, World, WorldEvent, turn_of, refu
 use Rattle.protocol_model.specs.Course.{Played, played, entries_of}
 use Rattle.protocol_model.specs.Fit.{is_exit, is_left, is_told, is_read, exit_of, left_of, notice_of}
 use Rattle.fitting.proofs.Events.{read_of}
-use Rattle.moves.proofs.Rules
+use Rattle.join_gates.proofs.Rules
 use Rattle.fitting.proofs.Rests.{Rested, rested_keeps, rested_opens}
 use Rattle.fitting.proofs.Events.{Own, event_enters}
 

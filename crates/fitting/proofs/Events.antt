@@ -13,8 +13,8 @@ use Rattle.fitting.proofs.Rests.{Rested, looked-answers, place_runs}
 use Rattle.protocol_model.specs.World.{Opening, World, WorldEvent, At, Deliver, join_number, turn_of, refusal, answers}
 use Rattle.protocol_model.specs.Course.{Played, played, is_down_first}
 use Rattle.protocol_model.specs.Fit.{is_exit, is_left, is_told, is_read, exit_of, left_of, notice_of}
-use Rattle.moves.proofs.Rules
-use Rattle.moves.proofs.Indices.{both}
+use Rattle.join_gates.proofs.Rules
+use Rattle.join_gates.proofs.Indices.{both}
 use Rattle.join_gates.proofs.Made.{entered, entries_made}
 
 -- the entry of an accepted look-up, with the reply that it was given

@@ -10,8 +10,8 @@ use Rattle.protocol_model.specs.Answers.{answer_to, is_prompt, due, is_admission
 use Rattle.protocol_model.specs.World.{Opening, World, WorldEvent, in_cluster, place, opening_world, turn_of, refusal, accepted}
 use Rattle.protocol_model.specs.Course.{Played, played, course}
 use Rattle.protocol_model.specs.Headline.{standing, EachStep}
-use Rattle.moves.proofs.Rules
-use Rattle.moves.proofs.Invariants.{standing_at}
+use Rattle.join_gates.proofs.Rules
+use Rattle.join_gates.proofs.Invariants.{standing_at}
 use Rattle.join_gates.proofs.Pasts.{Admitted, standing_of-append}
 use Rattle.fitting.proofs.Calls.{chain}
 use Rattle.fitting.proofs.Chains.{Ground, Book, good_behind, history_along, book_keeps, book_opens}

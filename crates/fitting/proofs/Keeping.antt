@@ -10,10 +10,10 @@ use Rattle.protocol_model.specs.Event.{Answer}
 use Rattle.protocol_model.specs.Fit.{Numbered, decided_at}
 use Rattle.protocol_model.specs.Answers.{entered_at}
 use Rattle.protocol_model.specs.World.{Opening, World, join_number, number_in, opening_world}
-use Rattle.moves.proofs.Rules
+use Rattle.join_gates.proofs.Rules
 use Rattle.registry_model.proofs.Updates.{by_test}
-use Rattle.moves.proofs.Indices.{at_pair}
-use Rattle.moves.proofs.Invariants.{current, Proper, Replicas}
+use Rattle.join_gates.proofs.Indices.{at_pair}
+use Rattle.join_gates.proofs.Invariants.{current, Proper, Replicas}
 use Rattle.join_gates.proofs.Made.{entered, answered, entries_made, answers_made}
 use Rattle.join_gates.proofs.Tokens.{Gate, Away, Turned, Entering, is_away, knocks, admissions}
 use Rattle.join_gates.proofs.Gates.{Gates, Once}

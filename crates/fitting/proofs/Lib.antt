@@ -1,3 +1,11 @@
+pub use Rattle.join_gates.proofs.Made
+pub use Rattle.join_gates.proofs.Gates
+pub use Rattle.join_gates.proofs.Shown
+pub use Rattle.join_gates.proofs.Joins
+pub use Rattle.join_gates.proofs.Pasts
+pub use Rattle.join_gates.proofs.Tokens
+pub use Rattle.join_gates.proofs.Still
+pub use Rattle.join_gates.proofs.Departs
 pub mod Rests
 pub mod Events
 pub mod Courses

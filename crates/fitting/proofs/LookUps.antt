@@ -18,8 +18,8 @@ use Rattle.protocol_model.specs.Fit.{exit_of, left_of, notice_of, accepted_at, c
 use Rattle.protocol_model.specs.Answers.{answer_to, is_unnumbered, IsNoLookUp, LooksUpOnce}
 use Rattle.protocol_model.specs.World.{Opening, World, WorldEvent, At, Deliver, place, turn_of, refusal, accepted}
 use Rattle.protocol_model.specs.Course.{Played, played, answers_of}
-use Rattle.moves.proofs.Rules
-use Rattle.moves.proofs.Invariants.{Replicas}
+use Rattle.join_gates.proofs.Rules
+use Rattle.join_gates.proofs.Invariants.{Replicas}
 use Rattle.fitting.proofs.Accounts.{is_word, is_word_at}
 use Rattle.fitting.proofs.Rests.{Rested, looked-answers, spawned-answers, place_runs}
 use Rattle.fitting.proofs.Events.{Own, event_enters, read_of}

@@ -15,9 +15,9 @@ use Rattle.protocol_model.specs.Turn.{Turn, begun, enter}
 use Rattle.protocol_model.specs.Fit.{Numbered, numbered, calls_in, number_from, accepted_at}
 use Rattle.protocol_model.specs.World.{Opening, World, join_number}
 use Rattle.protocol_model.specs.Course.{Played}
-use Rattle.moves.proofs.Rules
+use Rattle.join_gates.proofs.Rules
 use Rattle.registry_model.proofs.Updates.{by_test}
-use Rattle.moves.proofs.Indices.{both}
+use Rattle.join_gates.proofs.Indices.{both}
 use Rattle.join_gates.proofs.Calm.{node-answer_op, node-ask_rest}
 use Rattle.join_gates.proofs.Still.{effect-node}
 use Rattle.fitting.proofs.Working.{accepted_by}

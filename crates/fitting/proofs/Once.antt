@@ -17,8 +17,8 @@ use Rattle.protocol_model.specs.Fit.{Numbered, NameAs, JoinAs, numbered, number_
 use Rattle.protocol_model.specs.Answers.{answer_to, number_of, entered_at, may_have, calls_at, answers_under, AtMostOne, NotYet, Once}
 use Rattle.protocol_model.specs.World.{Opening, World}
 use Rattle.protocol_model.specs.Course.{Played, answers_of}
-use Rattle.moves.proofs.Indices.{both}
-use Rattle.moves.proofs.Invariants.{Replicas}
+use Rattle.join_gates.proofs.Indices.{both}
+use Rattle.join_gates.proofs.Invariants.{Replicas}
 use Rattle.fitting.proofs.Accounts.{own, owed_by, is_word, is_word_at, replies_to}
 use Rattle.fitting.proofs.Admissions.{all_map}
 use Rattle.fitting.proofs.Chains.{Book}

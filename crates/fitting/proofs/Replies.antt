@@ -18,7 +18,7 @@ use Rattle.protocol_model.specs.World.{Opening, World, WorldEvent, At, place, op
 use Rattle.protocol_model.specs.Course.{Played, played, entries_of, answers_of}
 use Rattle.registry_model.proofs.Updates.{by_test}
 use Rattle.protocol_model.proofs.Waiting.{accepted-node}
-use Rattle.moves.proofs.Invariants.{Replicas, IsWritten}
+use Rattle.join_gates.proofs.Invariants.{Replicas, IsWritten}
 use Rattle.fitting.proofs.Accounts.{own, owed_by, is_word, is_word_at, replies_to}
 use Rattle.fitting.proofs.Settling.{grant_word}
 use Rattle.fitting.proofs.Numbers.{accepted_at-push, length_push}

@@ -15,9 +15,9 @@ use Rattle.protocol_model.specs.Client.{is_spent}
 use Rattle.protocol_model.specs.Fit.{NameAs, JoinAs, decided_at}
 use Rattle.protocol_model.specs.Answers.{answer_to, entered_at}
 use Rattle.protocol_model.specs.World.{Opening, World, join_number}
-use Rattle.moves.proofs.Rules
-use Rattle.moves.proofs.Indices.{at_pair, pair_here}
-use Rattle.moves.proofs.Invariants.{current}
+use Rattle.join_gates.proofs.Rules
+use Rattle.join_gates.proofs.Indices.{at_pair, pair_here}
+use Rattle.join_gates.proofs.Invariants.{current}
 use Rattle.join_gates.proofs.Made.{entered, answered}
 use Rattle.join_gates.proofs.Tokens.{Gate, Away}
 use Rattle.join_gates.proofs.Gates.{Gates, by_other}

@@ -14,7 +14,7 @@ use Rattle.protocol_model.specs.Fit.{Numbered, NameAs, JoinAs, calls_in, accepte
 use Rattle.protocol_model.specs.Answers.{answer_to, number_of, entered_at, may_have, calls_at, answers_under}
 use Rattle.protocol_model.specs.World.{Opening, World}
 use Rattle.protocol_model.specs.Course.{Played, answers_of}
-use Rattle.moves.proofs.Invariants.{Replicas, IsWritten}
+use Rattle.join_gates.proofs.Invariants.{Replicas, IsWritten}
 use Rattle.join_gates.proofs.Tokens.{Gate}
 use Rattle.fitting.proofs.Accounts.{own, owed_by, undecided, numbered_op, is_word_at, replies_to, reply_by}
 use Rattle.fitting.proofs.Chains.{Book}

@@ -18,9 +18,9 @@ use Rattle.protocol_model.specs.Fit.{Numbered, NameAs, JoinAs, decided_at}
 use Rattle.protocol_model.specs.Answers.{answer_to, entered_at}
 use Rattle.protocol_model.specs.Turn.{Turn, begun, enter}
 use Rattle.protocol_model.specs.World.{Opening, World, left, join_number}
-use Rattle.moves.proofs.Rules
-use Rattle.moves.proofs.Indices.{pair_here}
-use Rattle.moves.proofs.Invariants.{replica, Proper, Replicas, IsWritten}
+use Rattle.join_gates.proofs.Rules
+use Rattle.join_gates.proofs.Indices.{pair_here}
+use Rattle.join_gates.proofs.Invariants.{replica, Proper, Replicas, IsWritten}
 use Rattle.join_gates.proofs.Made.{entered, answered, answer_of}
 use Rattle.join_gates.proofs.Calm.{node-answer_op, node-ask_rest}
 use Rattle.join_gates.proofs.Tokens.{Gate, Knock, Turned, Entering, returns_of, returns}

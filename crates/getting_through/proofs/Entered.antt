@@ -12,19 +12,19 @@ use Rattle.protocol_model.specs.Course.{Played, played, entries_of, answers_of, 
 use Rattle.protocol_model.specs.Answers.{entered_at}
 use Rattle.protocol_model.specs.Leftovers.{IsQuiet, world}
 use Rattle.protocol_model.proofs.Courses.{run-append}
-use Rattle.moves.proofs.Invariants.{IsUp, IsProperCurrent}
-use Rattle.join_gates.proofs.Tokens.{Gate, Away, Knock, Wait, Turned, Entering}
-use Rattle.join_gates.proofs.Tokens
-use Rattle.fitting.proofs.Accounts.{owed_by, is_word_at, replies_to, reply_by, answer_with}
-use Rattle.fitting.proofs.Chains.{Book}
-use Rattle.fitting.proofs.Theorem
-use Rattle.headline.proofs.Courses.{entries_of-append}
-use Rattle.headline.proofs.Passing.{item_filtered}
-use Rattle.headline.proofs.Story.{ground}
-use Rattle.headline.proofs.Theorem.{history_grows}
-use Rattle.headline.proofs.Together.{Whole, whole_opens}
-use Rattle.leftovers.proofs.Families.{Whole as WholeWorld, whole}
-use Rattle.leftovers.proofs.Quiet.{at_ease, registrars}
+use Rattle.no_dead_end.proofs.Invariants.{IsUp, IsProperCurrent}
+use Rattle.no_dead_end.proofs.Tokens.{Gate, Away, Knock, Wait, Turned, Entering}
+use Rattle.no_dead_end.proofs.Tokens
+use Rattle.no_dead_end.proofs.Accounts.{owed_by, is_word_at, replies_to, reply_by, answer_with}
+use Rattle.no_dead_end.proofs.Chains.{Book}
+use Rattle.no_dead_end.proofs.Theorem
+use Rattle.no_dead_end.proofs.Courses.{entries_of-append}
+use Rattle.no_dead_end.proofs.Passing.{item_filtered}
+use Rattle.no_dead_end.proofs.Story.{ground}
+use Rattle.no_dead_end.proofs.HeadlineTheorem.{history_grows}
+use Rattle.no_dead_end.proofs.Together.{Whole, whole_opens}
+use Rattle.no_dead_end.proofs.Families.{Whole as WholeWorld, whole}
+use Rattle.no_dead_end.proofs.Quiet.{at_ease, registrars}
 
 -- one list of events after another
 pub course-append : (o : Opening) (w : World) (xs ys : List WorldEvent)

@@ -15,11 +15,11 @@ use Rattle.protocol_model.specs.Course.{course}
 use Rattle.protocol_model.specs.Leftovers.{Always, Runs, IsQuiet, IsSettled, world}
 use Rattle.protocol_model.proofs.Courses.{run-append}
 use Rattle.protocol_model.proofs.Deliveries.{delivers_the_first}
-use Rattle.moves.proofs.Indices.{both}
-use Rattle.moves.proofs.Rules
-use Rattle.moves.proofs.Rules.{Rule}
+use Rattle.no_dead_end.proofs.Indices.{both}
+use Rattle.no_dead_end.proofs.Rules
+use Rattle.no_dead_end.proofs.Rules.{Rule}
 use Rattle.walk.proofs.Walk.{OrderedWalk, walked_in_order}
-use Rattle.leftovers.proofs.Grounds.{Base, base_keeps, wide, Both, both_event}
+use Rattle.no_dead_end.proofs.Grounds.{Base, base_keeps, wide, Both, both_event}
 use Rattle.no_dead_end.specs.Work.{work}
 use Rattle.no_dead_end.specs.Answering.{NameCallsAreAnswered}
 use Rattle.no_dead_end.proofs.AdmitsJoined.{AdmitsJoined, keeps, known}

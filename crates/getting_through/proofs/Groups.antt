@@ -7,13 +7,13 @@ use Rattle.registry_model.specs.History.{Hold, hold_at}
 use Rattle.protocol_model.specs.Node.{Current, is_writing}
 use Rattle.protocol_model.specs.World.{Opening, World, left}
 use Rattle.protocol_model.specs.Leftovers.{IsQuiet}
-use Rattle.moves.proofs.Indices.{both}
-use Rattle.moves.proofs.Invariants.{IsUp, standing_at}
-use Rattle.replicas.proofs.States
-use Rattle.leftovers.proofs.Families.{Whole}
-use Rattle.leftovers.proofs.Grounds.{replicas}
-use Rattle.leftovers.proofs.Quiet.{rid, at_ease, registrars}
-use Rattle.leftovers.proofs.Rest.{Grouped}
+use Rattle.no_dead_end.proofs.Indices.{both}
+use Rattle.no_dead_end.proofs.Invariants.{IsUp, standing_at}
+use Rattle.no_dead_end.proofs.States
+use Rattle.no_dead_end.proofs.Families.{Whole}
+use Rattle.no_dead_end.proofs.Grounds.{replicas}
+use Rattle.no_dead_end.proofs.Quiet.{rid, at_ease, registrars}
+use Rattle.no_dead_end.proofs.Rest.{Grouped}
 
 module _ (o : Opening) (w : World) (W : Whole o w) (Q : IsQuiet o w) where
   abbrev r : Registry

@@ -22,15 +22,15 @@ use Rattle.protocol_model.specs.Fit.{is_delivery}
 use Rattle.protocol_model.specs.Answers.{answer_to}
 use Rattle.protocol_model.specs.Leftovers.{Always, Runs, IsQuiet, IsSettled, world}
 use Rattle.protocol_model.proofs.Courses.{run-append}
-use Rattle.moves.proofs.Indices.{greatest_in}
-use Rattle.moves.proofs.Invariants.{IsUp}
-use Rattle.moves.proofs.Sends.{sent_to-one}
+use Rattle.no_dead_end.proofs.Indices.{greatest_in}
+use Rattle.no_dead_end.proofs.Invariants.{IsUp}
+use Rattle.no_dead_end.proofs.Sends.{sent_to-one}
 use Rattle.walk.proofs.Events.{accepted_of}
 use Rattle.walk.proofs.Runs.{happens-accepted}
-use Rattle.lock_sessions.proofs.Base.{after_turn, posted-here}
-use Rattle.lock_sessions.proofs.Sessions.{append-cancel, found, request_in}
-use Rattle.leftovers.proofs.Families.{Whole, whole}
-use Rattle.leftovers.proofs.Grounds.{Base}
+use Rattle.no_dead_end.proofs.Base.{after_turn, posted-here}
+use Rattle.no_dead_end.proofs.Sessions.{append-cancel, found, request_in}
+use Rattle.no_dead_end.proofs.Families.{Whole, whole}
+use Rattle.no_dead_end.proofs.Grounds.{Base}
 use Rattle.no_dead_end.proofs.AdmitsJoined.{AdmitsJoined, known as admissions_known}
 use Rattle.no_dead_end.proofs.CallsAnswered.{rest_is_free}
 use Rattle.no_dead_end.proofs.QuietWorlds.{quiet_worlds_rest}

@@ -10,17 +10,17 @@ use Rattle.std.proofs.lemmas.List.Sums.{fold-append}
 use Rattle.protocol_model.specs.Node.{Op, Current}
 use Rattle.protocol_model.specs.Event.{Event, is_waiting}
 use Rattle.protocol_model.specs.World.{At, refusal}
-use Rattle.creations.specs.NodeNames.{NamedOpening, opening_of}
-use Rattle.creations.specs.NamedWorld.{NamedWorld, NamedEvent, running_nodes, happens_named, run_named, opening_named, after_events}
-use Rattle.creations.specs.NamedScript.{next_named, named_deliveries_left}
-use Rattle.creations.specs.Restarts.{IsUp}
-use Rattle.creations.specs.NamedLeftovers.{NamesAreQuiet, NamesAreSettled}
-use Rattle.creations.specs.Lifted.{events_played}
-use Rattle.creations.proofs.Always.{always}
-use Rattle.creations.proofs.Lists.{find_none, find_least}
-use Rattle.creations.proofs.Running.{runs_listed, listed_runs, running_rise}
-use Rattle.named_events.specs.Settling.{IsFirstByName, SettlesByName}
-use Rattle.named_events.proofs.Settling.{settling_delivers_the_first}
+use Rattle.no_dead_end.specs.NodeNames.{NamedOpening, opening_of}
+use Rattle.no_dead_end.specs.NamedWorld.{NamedWorld, NamedEvent, running_nodes, happens_named, run_named, opening_named, after_events}
+use Rattle.no_dead_end.specs.NamedScript.{next_named, named_deliveries_left}
+use Rattle.no_dead_end.specs.Restarts.{IsUp}
+use Rattle.no_dead_end.specs.NamedLeftovers.{NamesAreQuiet, NamesAreSettled}
+use Rattle.no_dead_end.specs.Lifted.{events_played}
+use Rattle.no_dead_end.proofs.Always.{always}
+use Rattle.no_dead_end.proofs.Lists.{find_none, find_least}
+use Rattle.no_dead_end.proofs.Running.{runs_listed, listed_runs, running_rise}
+use Rattle.no_dead_end.specs.Settling.{IsFirstByName, SettlesByName}
+use Rattle.no_dead_end.proofs.Settling.{settling_delivers_the_first}
 use Rattle.no_dead_end.specs.Answering.{NameCallsAreAnswered}
 use Rattle.no_dead_end.specs.NamedNoDeadEnd.{AlwaysNamed, named_work, NamedQuietWorldsRest}
 use Rattle.no_dead_end.proofs.CallsAnswered.{rest_is_free}

@@ -1,31 +1,27 @@
 -- Deliveries and retries by names are those of the world in which all nodes that haven't started were told of all that have left: there as
 -- much is pending as here, so none of them raises it, and where a refused registrar is retried less is pending behind them.
-use mathlib.Core.Logic.{◌⊎◌}
-use Rattle.std.proofs.Common.{ℕ, Bool, true, false, ◌≡◌, ◌<◌, ◌≤◌, ◌+◌, Option, Some, None, List, [], ◌∷◌, ◌++◌, refl, sym, ap, subst, ◌∙◌, inl, inr, arith}
+use Rattle.std.proofs.Common.{ℕ, Bool, true, false, ◌≡◌, ◌<◌, ◌≤◌, ◌+◌, Option, Some, None, List, [], ◌∷◌, ◌++◌, refl, sym, ap, subst, ◌∙◌, arith}
 use Rattle.std.specs.Prelude.{Contains, is_none, not, ◌&&◌, if◌then◌else◌}
 use Rattle.std.specs.List.{list_all}
-use Rattle.std.proofs.lemmas.Bool.{false_from_ne_true}
 use Rattle.std.proofs.lemmas.List.Sums.{fold-append}
 use Rattle.std.proofs.lemmas.List.Folds.{list_all-append}
 use Rattle.registry_model.specs.Process.{Nodes}
-use Rattle.protocol_model.specs.Letter.{Letter}
 use Rattle.protocol_model.specs.Node.{Node, Op, Current}
 use Rattle.protocol_model.specs.Event.{Event, NoSuchNode}
-use Rattle.protocol_model.specs.World.{Opening, in_world, World, left, WorldEvent, At, opening_world, number_in, refusal, run, all_answers}
+use Rattle.protocol_model.specs.World.{Opening, in_world, World, left, WorldEvent, At, opening_world, refusal, run, all_answers}
 use Rattle.protocol_model.specs.Leftovers.{IsQuiet, world}
 use Rattle.protocol_model.proofs.Courses.{run-append}
-use Rattle.moves.proofs.Indices.{both, not_true}
-use Rattle.creations.specs.NodeNames.{NamedOpening, opening_of}
-use Rattle.creations.specs.NamedWorld.{NamedWorld, NamedEvent, NamedRefusal, Plain, present_node, has_started, sender_to, named_refusal, plain_refusal, plain, plain_accepted, plain_events, accepted_named, happens_named, run_named, opening_named, after_events}
-use Rattle.creations.specs.Restarts.{IsUp}
-use Rattle.creations.specs.NamedLeftovers.{NamesAreQuiet}
-use Rattle.creations.proofs.Alike.{Alike, AreWithin, same_refusal, within-append, run_alike}
-use Rattle.creations.proofs.Always.{always, happens_keeps}
-use Rattle.creations.proofs.Catching
-use Rattle.creations.proofs.CaughtUp.{is_listed}
-use Rattle.creations.proofs.LeftOfNames
-use Rattle.creations.proofs.NamedRuns.{run-plain, named_runs_are_runs, plain_events-append}
-use Rattle.creations.proofs.Standing.{Sound, present_started, least_started, unrefused}
+use Rattle.no_dead_end.proofs.Indices.{both, not_true}
+use Rattle.no_dead_end.specs.NodeNames.{NamedOpening, opening_of}
+use Rattle.no_dead_end.specs.NamedWorld.{NamedWorld, NamedEvent, NamedRefusal, Plain, present_node, has_started, sender_to, named_refusal, plain_refusal, plain, plain_accepted, plain_events, accepted_named, happens_named, run_named, opening_named, after_events}
+use Rattle.no_dead_end.specs.Restarts.{IsUp}
+use Rattle.no_dead_end.specs.NamedLeftovers.{NamesAreQuiet}
+use Rattle.no_dead_end.proofs.Alike.{Alike, AreWithin, same_refusal, within-append, run_alike}
+use Rattle.no_dead_end.proofs.Always.{always, happens_keeps}
+use Rattle.no_dead_end.proofs.LeftOfNames
+use Rattle.no_dead_end.proofs.QuietNames
+use Rattle.no_dead_end.proofs.NamedRuns.{run-plain, named_runs_are_runs, plain_events-append}
+use Rattle.no_dead_end.proofs.Standing.{Sound, present_started, least_started, unrefused}
 use Rattle.no_dead_end.specs.Weights.{sum_below, when, of_link, of_node, of_place}
 use Rattle.no_dead_end.specs.Work.{running}
 use Rattle.no_dead_end.specs.NamedNoDeadEnd.{AlwaysNamed, up}
@@ -184,35 +180,9 @@ module _ (o : NamedOpening) (es : List NamedEvent) where
   pub s : Sound o w
   s = LeftOfNames.s o es
 
-  started_is_other : (c : ℕ) → S c ≡ true → Contains late c → ⊥
-  started_is_other c e i = cc (LeftOfNames.unstarted o es c i, e)
-
-  listed : (c : ℕ) → (Contains late c) ⊎ (Contains late c → ⊥)
-  listed c = is_listed (O o) (LeftOfNames.gone o es) (LeftOfNames.distinct_gone o es) late c
-
   -- the world as it was and the one in which all were told are alike
   pub alike : Alike (O o) S w.world u
-  alike = record {
-    node = λ a e. (LeftOfNames.caught o es).others a (started_is_other a e);
-    number = λ a. elim (listed a) [
-      | inl i ↦ ap (λ (v : Node). number_in v.current) ((LeftOfNames.caught o es).fresh a i)
-          ∙ sym (ap (λ (v : Node). number_in v.current)
-          (Catching.fresh o w s a (LeftOfNames.unstarted o es a i) (LeftOfNames.inside o es a i)).node)
-      | inr out ↦ ap (λ (v : Node). number_in v.current) ((LeftOfNames.caught o es).others a out)
-    ];
-    queue = λ f t e. (LeftOfNames.caught o es).elsewhere f t (started_is_other t e);
-    departures = (LeftOfNames.caught o es).departures;
-    late = λ f n e. elim (listed n) [
-      | inl i ↦ (LeftOfNames.caught o es).emptied f n i
-      | inr out ↦ (LeftOfNames.caught o es).elsewhere f n out ∙ s.apart.told f n e
-          ∙ outside (left w.world f) (in_world (O o) n)
-          (false_from_ne_true (in_world (O o) n) (λ q. out (LeftOfNames.is_late o es n e q)))
-    ];
-  }
-    where
-      outside : (b c : Bool) → c ≡ false → (if b && c then Letter.Down ∷ [] else []) ≡ []
-      outside true c e = ap (λ (x : Bool). if x then Letter.Down ∷ [] else []) e
-      outside false c e = refl
+  alike = QuietNames.alike o es
 
   pub told_world : world (O o) (E ++ F) ≡ u
   told_world = run-append (O o) (opening_world (O o)) E F

@@ -16,17 +16,17 @@ use Rattle.protocol_model.specs.Course.{played, entries_of, answers_of, course}
 use Rattle.protocol_model.specs.Answers.{answer_to}
 use Rattle.protocol_model.specs.Leftovers.{Runs, world}
 use Rattle.protocol_model.proofs.Courses.{answers-append, course_answers}
-use Rattle.headline.proofs.Courses.{entries_of-append}
-use Rattle.creations.specs.NodeNames.{NamedOpening}
-use Rattle.creations.specs.NamedWorld.{NamedWorld, NamedEvent, happens_named, run_named, plain_events, opening_named, after_events, as_events}
-use Rattle.creations.specs.Restarts.{IsUp}
-use Rattle.creations.specs.Lifted.{events_played}
-use Rattle.creations.proofs.Alike.{Alike, AreWithin, same_refusal, same_turn, run_alike}
-use Rattle.creations.proofs.Apart.{Apart, accepted_apart}
-use Rattle.creations.proofs.CaughtUp.{unanswered}
-use Rattle.creations.proofs.LeftOfNames
-use Rattle.creations.proofs.NamedRuns.{named_runs_are_runs, plain_events-append}
-use Rattle.creations.proofs.Standing.{least_started}
+use Rattle.no_dead_end.proofs.Courses.{entries_of-append}
+use Rattle.no_dead_end.specs.NodeNames.{NamedOpening}
+use Rattle.no_dead_end.specs.NamedWorld.{NamedWorld, NamedEvent, happens_named, run_named, plain_events, opening_named, after_events, as_events}
+use Rattle.no_dead_end.specs.Restarts.{IsUp}
+use Rattle.no_dead_end.specs.Lifted.{events_played}
+use Rattle.no_dead_end.proofs.Alike.{Alike, AreWithin, same_refusal, same_turn, run_alike}
+use Rattle.no_dead_end.proofs.Apart.{Apart, accepted_apart}
+use Rattle.no_dead_end.proofs.CaughtUp.{unanswered}
+use Rattle.no_dead_end.proofs.LeftOfNames
+use Rattle.no_dead_end.proofs.NamedRuns.{named_runs_are_runs, plain_events-append}
+use Rattle.no_dead_end.proofs.Standing.{least_started}
 use Rattle.no_dead_end.specs.NamedNoDeadEnd.{AlwaysNamed}
 use Rattle.getting_through.specs.Pending.{pending}
 use Rattle.getting_through.specs.GettingThrough.{reply_now, End, SomeoneGetsThrough}

@@ -9,10 +9,10 @@ use Rattle.protocol_model.specs.Letter.{Letter}
 use Rattle.protocol_model.specs.Node.{Node, Op, Current, LockPhase, LockCall}
 use Rattle.protocol_model.specs.Turn.{Send}
 use Rattle.protocol_model.specs.World.{Opening}
-use Rattle.moves.proofs.Indices.{both, neither}
-use Rattle.moves.proofs.SendTests.{all_pass, pass_each}
-use Rattle.moves.proofs.Sends.{to_each}
-use Rattle.client_locks.proofs.Ids.{is_process_swap}
+use Rattle.no_dead_end.proofs.Indices.{both, neither}
+use Rattle.no_dead_end.proofs.SendTests.{all_pass, pass_each}
+use Rattle.no_dead_end.proofs.Sends.{to_each}
+use Rattle.no_dead_end.proofs.Ids.{is_process_swap}
 use Rattle.no_dead_end.specs.Weights.{sum_below, when, is_struck, may_strike, of_current, of_phase, of_node}
 use Rattle.no_dead_end.proofs.Counting.{Counting}
 use Rattle.no_dead_end.proofs.Sums.{sum-same, sum-le, sum-add, sum-zero, sum-most, when-swap}

@@ -18,9 +18,9 @@ use Rattle.protocol_model.specs.Registrar.{registrar, done}
 use Rattle.protocol_model.specs.Client.{is_spent, in_phase, close_call, give_lock}
 use Rattle.protocol_model.specs.Reading.{admitted, welcomed}
 use Rattle.protocol_model.specs.World.{Opening, in_world, World, apply}
-use Rattle.moves.proofs.Rules
-use Rattle.moves.proofs.Rules.{Rule, Taken}
-use Rattle.moves.proofs.Sends.{to_each}
+use Rattle.no_dead_end.proofs.Rules
+use Rattle.no_dead_end.proofs.Rules.{Rule, Taken}
+use Rattle.no_dead_end.proofs.Sends.{to_each}
 use Rattle.no_dead_end.specs.Weights.{when, may_strike, total}
 use Rattle.no_dead_end.specs.Work.{is_put, owned_on}
 use Rattle.no_dead_end.proofs.Totals.{turn_total, taken_total, sent_work-append}

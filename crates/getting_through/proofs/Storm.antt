@@ -17,15 +17,15 @@ use Rattle.protocol_model.specs.Letter.{Global, Letter}
 use Rattle.protocol_model.specs.Node.{Node, Op, Current}
 use Rattle.protocol_model.specs.Turn.{Turn, sent_to}
 use Rattle.protocol_model.specs.World.{Opening, in_world, World, left}
-use Rattle.moves.proofs.Indices.{both}
-use Rattle.moves.proofs.Invariants.{Each, IsUp}
-use Rattle.moves.proofs.Rules
-use Rattle.moves.proofs.Rules.{Rule, Taken, FrontTaken, awaits}
-use Rattle.moves.proofs.SendTests.{all_pass, pass_sent}
-use Rattle.lock_sessions.proofs.Base.{popped_queue, popped, after_turn, each-popped, each-posted}
-use Rattle.lock_sessions.proofs.LockTables.{is_global, globals, share}
-use Rattle.lock_sessions.proofs.Sessions.{Request, Returns, found, found-append, request_in}
-use Rattle.join_gates.proofs.Still.{effect-history}
+use Rattle.no_dead_end.proofs.Indices.{both}
+use Rattle.no_dead_end.proofs.Invariants.{Each, IsUp}
+use Rattle.no_dead_end.proofs.Rules
+use Rattle.no_dead_end.proofs.Rules.{Rule, Taken, FrontTaken, awaits}
+use Rattle.no_dead_end.proofs.SendTests.{all_pass, pass_sent}
+use Rattle.no_dead_end.proofs.Base.{popped_queue, popped, after_turn, each-popped, each-posted}
+use Rattle.no_dead_end.proofs.LockTables.{is_global, globals, share}
+use Rattle.no_dead_end.proofs.Sessions.{Request, Returns, found, found-append, request_in}
+use Rattle.no_dead_end.proofs.Still.{effect-history}
 use Rattle.getting_through.specs.GettingThrough.{reply_now}
 
 -- a letter of a lock call, or of a round for the global lock, that refuses nothing and gives nothing back

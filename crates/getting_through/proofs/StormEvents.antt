@@ -18,21 +18,21 @@ use Rattle.protocol_model.specs.World.{Opening, in_world, World, left, WorldEven
 use Rattle.protocol_model.specs.Course.{global_given}
 use Rattle.protocol_model.specs.Leftovers.{IsQuiet, world}
 use Rattle.protocol_model.proofs.Waiting.{accepted-node}
-use Rattle.moves.proofs.Indices.{both, neither}
-use Rattle.moves.proofs.Invariants.{Each, IsUp}
-use Rattle.moves.proofs.Rules
-use Rattle.moves.proofs.Rules.{Rule, is_quiet}
+use Rattle.no_dead_end.proofs.Indices.{both, neither}
+use Rattle.no_dead_end.proofs.Invariants.{Each, IsUp}
+use Rattle.no_dead_end.proofs.Rules
+use Rattle.no_dead_end.proofs.Rules.{Rule, is_quiet}
 use Rattle.walk.proofs.ChainKinds.{is_allowed}
 use Rattle.walk.proofs.Runs.{happens-accepted}
 use Rattle.walk.proofs.Walk.{OrderedWalk, walked_in_order}
-use Rattle.lock_sessions.proofs.Base.{is_leave, effect-turn}
-use Rattle.lock_sessions.proofs.LockTables.{globals, share}
-use Rattle.lock_sessions.proofs.Sessions.{Stage, Session, fits, mark_in, requests_at, answers_at, share_at, found, request_in}
-use Rattle.lock_sessions.proofs.Sessions
-use Rattle.leftovers.proofs.Families.{Whole}
-use Rattle.leftovers.proofs.Grounds.{Base, base_keeps, wide}
-use Rattle.leftovers.proofs.LocksTold.{nobody_keeps_the_global_lock}
-use Rattle.leftovers.proofs.Quiet.{at_ease, registrars, still}
+use Rattle.no_dead_end.proofs.Base.{is_leave, effect-turn}
+use Rattle.no_dead_end.proofs.LockTables.{globals, share}
+use Rattle.no_dead_end.proofs.Sessions.{Stage, Session, fits, mark_in, requests_at, answers_at, share_at, found, request_in}
+use Rattle.no_dead_end.proofs.Sessions
+use Rattle.no_dead_end.proofs.Families.{Whole}
+use Rattle.no_dead_end.proofs.Grounds.{Base, base_keeps, wide}
+use Rattle.no_dead_end.proofs.LocksTold.{nobody_keeps_the_global_lock}
+use Rattle.no_dead_end.proofs.Quiet.{at_ease, registrars, still}
 use Rattle.no_dead_end.specs.Weights.{total}
 use Rattle.no_dead_end.specs.Work.{running}
 use Rattle.no_dead_end.proofs.AdmitsJoined.{AdmitsJoined, keeps, along_ready}

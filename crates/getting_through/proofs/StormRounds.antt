@@ -7,9 +7,9 @@ use Rattle.registry_model.proofs.Updates.{by_test}
 use Rattle.protocol_model.specs.Round.{Mark, Out, Later, Owes, Granted, Refused, Lost, Gone, Round, Ending, GiveBack, is_empty, is_out, is_owes, is_refused, is_gone, is_granted, has_granted, asked_too, mark_down, greatest, begin, owes, opens, answer, down, is_over, granted, is_held, ending}
 use Rattle.protocol_model.specs.Node.{Op}
 use Rattle.protocol_model.specs.World.{Opening, World}
-use Rattle.moves.proofs.Indices.{empty_at, is_empty_from}
-use Rattle.client_locks.proofs.Rounds.{mark_by, answer_opens, answer_owed}
-use Rattle.lock_sessions.proofs.Locking.{BossFirst, is_unasked}
+use Rattle.no_dead_end.proofs.Indices.{empty_at, is_empty_from}
+use Rattle.no_dead_end.proofs.Rounds.{mark_by, answer_opens, answer_owed}
+use Rattle.no_dead_end.proofs.Locking.{BossFirst, is_unasked}
 use Rattle.getting_through.proofs.Storm.{members, boss, IsMark}
 
 module _ (o : Opening) (w : World) (ops : ℕ → Option Op) (c : ℕ) (below : (x : ℕ) → members o w ops c x ≡ true → x < o.bound) where

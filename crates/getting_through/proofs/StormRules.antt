@@ -21,22 +21,22 @@ use Rattle.protocol_model.specs.Client.{is_spent, in_phase, close_call, give_loc
 use Rattle.protocol_model.specs.Reading.{judge}
 use Rattle.protocol_model.specs.World.{Opening, in_world, World, left, join_number}
 use Rattle.protocol_model.specs.Leftovers.{IsQuiet}
-use Rattle.moves.proofs.Rules
-use Rattle.moves.proofs.Rules.{Rule, Taken, FrontTaken, kills_in, awaits, IsHeld}
-use Rattle.moves.proofs.Indices.{greatest_in}
-use Rattle.moves.proofs.Invariants.{Each, IsUp}
-use Rattle.moves.proofs.SendTests.{all_pass, pass_each}
-use Rattle.moves.proofs.Sends.{to_each, sent_to-one}
-use Rattle.client_locks.proofs.Rounds.{answer_boss, given_back}
-use Rattle.lock_sessions.proofs.Base.{is_leave, effect-turn, after_turn, each-one, posted-here}
-use Rattle.lock_sessions.proofs.LockTables.{is_global, globals, Row, grants_of, share, once, globals-grant-client, globals-give_back-client, is_free_for-globals, grant-row, one_share}
-use Rattle.lock_sessions.proofs.Locking.{IsNamed, BossFirst, IsRound, is_unasked, call_of-client}
-use Rattle.lock_sessions.proofs.Sessions.{Stage, Request, Returns, Session, fits, mark_in, requests_at, share_at, found, found-append, request_in}
-use Rattle.lock_sessions.proofs.Sessions
-use Rattle.leftovers.proofs.Families.{Whole}
-use Rattle.leftovers.proofs.Grounds.{Base}
-use Rattle.leftovers.proofs.Quiet.{rid, at_ease, registrars}
-use Rattle.leftovers.proofs.Rest.{WorkRests}
+use Rattle.no_dead_end.proofs.Rules
+use Rattle.no_dead_end.proofs.Rules.{Rule, Taken, FrontTaken, kills_in, awaits, IsHeld}
+use Rattle.no_dead_end.proofs.Indices.{greatest_in}
+use Rattle.no_dead_end.proofs.Invariants.{Each, IsUp}
+use Rattle.no_dead_end.proofs.SendTests.{all_pass, pass_each}
+use Rattle.no_dead_end.proofs.Sends.{to_each, sent_to-one}
+use Rattle.no_dead_end.proofs.Rounds.{answer_boss, given_back}
+use Rattle.no_dead_end.proofs.Base.{is_leave, effect-turn, after_turn, each-one, posted-here}
+use Rattle.no_dead_end.proofs.LockTables.{is_global, globals, Row, grants_of, share, once, globals-grant-client, globals-give_back-client, is_free_for-globals, grant-row, one_share}
+use Rattle.no_dead_end.proofs.Locking.{IsNamed, BossFirst, IsRound, is_unasked, call_of-client}
+use Rattle.no_dead_end.proofs.Sessions.{Stage, Request, Returns, Session, fits, mark_in, requests_at, share_at, found, found-append, request_in}
+use Rattle.no_dead_end.proofs.Sessions
+use Rattle.no_dead_end.proofs.Families.{Whole}
+use Rattle.no_dead_end.proofs.Grounds.{Base}
+use Rattle.no_dead_end.proofs.Quiet.{rid, at_ease, registrars}
+use Rattle.no_dead_end.proofs.Rest.{WorkRests}
 use Rattle.getting_through.specs.GettingThrough.{reply_now}
 use Rattle.getting_through.proofs.Groups.{below, apart, member_runs, same_members}
 use Rattle.getting_through.proofs.Storm.{is_mild, is_decision, ignored, no_returns, is_simple, Parts, parts_self, NoRequest, members, boss, Plain, IsMark, Active, Held, Asked, Still, Round_at, IsAt, Before, Asking, Again, DecidedIn, Goes, Turned, simple_sends, still_after, active_after}

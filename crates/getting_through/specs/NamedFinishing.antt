@@ -4,11 +4,11 @@ use Rattle.std.specs.Prelude.{ℕ, Bool, zero, suc, true, false, ◌≡◌, ◌<
 use Rattle.std.specs.List.{list_all}
 use Rattle.protocol_model.specs.Node.{Op, Current}
 use Rattle.protocol_model.specs.Event.{Event, is_waiting}
-use Rattle.creations.specs.NodeNames.{NamedOpening}
-use Rattle.creations.specs.NamedWorld.{NamedWorld, NamedEvent, AtNode, running_nodes, happens_named, run_named}
-use Rattle.creations.specs.NamedScript.{next_named, named_deliveries_left}
-use Rattle.creations.specs.Restarts.{IsUp}
-use Rattle.creations.specs.NamedLeftovers.{NamesAreQuiet}
+use Rattle.no_dead_end.specs.NodeNames.{NamedOpening}
+use Rattle.no_dead_end.specs.NamedWorld.{NamedWorld, NamedEvent, AtNode, running_nodes, happens_named, run_named}
+use Rattle.no_dead_end.specs.NamedScript.{next_named, named_deliveries_left}
+use Rattle.no_dead_end.specs.Restarts.{IsUp}
+use Rattle.no_dead_end.specs.NamedLeftovers.{NamesAreQuiet}
 use Rattle.no_dead_end.specs.NamedNoDeadEnd.{named_work}
 use Rattle.getting_through.specs.NamedGettingFree.{is_named_delivery_or_retry, named_pending, NamesLeadOn}
 

@@ -4,11 +4,11 @@ use Rattle.std.specs.Prelude.{ℕ, Bool, true, false, ◌≡◌, List, [], ◌++
 use Rattle.std.specs.List.{list_all}
 use Rattle.protocol_model.specs.Node.{Current}
 use Rattle.protocol_model.specs.Event.{Event}
-use Rattle.creations.specs.NodeNames.{NamedOpening, opening_of}
-use Rattle.creations.specs.NamedWorld.{NamedWorld, NamedEvent, AtNode, Deliver, run_named}
-use Rattle.creations.specs.Restarts.{IsUp}
-use Rattle.creations.specs.NamedLeftovers.{NamesAreSettled}
-use Rattle.creations.specs.Lifted.{events_played}
+use Rattle.no_dead_end.specs.NodeNames.{NamedOpening, opening_of}
+use Rattle.no_dead_end.specs.NamedWorld.{NamedWorld, NamedEvent, AtNode, Deliver, run_named}
+use Rattle.no_dead_end.specs.Restarts.{IsUp}
+use Rattle.no_dead_end.specs.NamedLeftovers.{NamesAreSettled}
+use Rattle.no_dead_end.specs.Lifted.{events_played}
 use Rattle.no_dead_end.specs.Weights.{total}
 use Rattle.no_dead_end.specs.NamedNoDeadEnd.{up}
 use Rattle.no_dead_end.specs.Answering.{NameCallsAreAnswered}

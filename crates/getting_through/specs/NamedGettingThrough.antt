@@ -10,11 +10,11 @@ use Rattle.protocol_model.specs.Event.{Event}
 use Rattle.protocol_model.specs.World.{left}
 use Rattle.protocol_model.specs.Course.{entries_of, answers_of, course}
 use Rattle.protocol_model.specs.Answers.{answer_to}
-use Rattle.creations.specs.NodeNames.{NamedOpening, opening_of}
-use Rattle.creations.specs.NamedWorld.{NamedWorld, NamedEvent, AtNode, named_refusal, run_named, plain_events}
-use Rattle.creations.specs.Restarts.{IsUp}
-use Rattle.creations.specs.NamedLeftovers.{NamesAreQuiet}
-use Rattle.creations.specs.Lifted.{events_played}
+use Rattle.no_dead_end.specs.NodeNames.{NamedOpening, opening_of}
+use Rattle.no_dead_end.specs.NamedWorld.{NamedWorld, NamedEvent, AtNode, named_refusal, run_named, plain_events}
+use Rattle.no_dead_end.specs.Restarts.{IsUp}
+use Rattle.no_dead_end.specs.NamedLeftovers.{NamesAreQuiet}
+use Rattle.no_dead_end.specs.Lifted.{events_played}
 use Rattle.getting_through.specs.GettingThrough.{reply_now}
 use Rattle.getting_through.specs.NamedGettingFree.{is_named_delivery_or_retry, named_pending}
 

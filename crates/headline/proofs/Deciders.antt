@@ -29,7 +29,7 @@ use Rattle.walk.proofs.Walk.{OrderedWalk, walked_in_order}
 use Rattle.lock_sessions.proofs.Given.{held_given}
 use Rattle.replicas.proofs.Deciding
 use Rattle.replicas.proofs.Steps.{standing_of-effect}
-use Rattle.join_gates.proofs.Made.{entered, entries_made}
+use Rattle.fitting.proofs.Made.{entered, entries_made}
 use Rattle.headline.proofs.Together.{Whole, alone, replicas, heard_joins, widens, rule_whole, course_keeps}
 use Rattle.headline.proofs.Making.{strikes_own}
 use Rattle.headline.proofs.Courses.{history_push, last_step, no_last_step}

@@ -29,10 +29,10 @@ use Rattle.moves.proofs.Rules.{Rule}
 use Rattle.moves.proofs.Indices.{both, empty_at}
 use Rattle.moves.proofs.Invariants.{current, standing_at, Replicas, IsWritten}
 use Rattle.walk.proofs.Runs.{rules_of}
-use Rattle.join_gates.proofs.Made.{entered, entries_made}
-use Rattle.join_gates.proofs.Tokens.{Gate, Away, Knock, Wait, Turned, Entering, is_entering, returns, returns_of}
-use Rattle.join_gates.proofs.Pasts.{Admitted, joined_grows}
-use Rattle.join_gates.proofs.Still.{effect-standing}
+use Rattle.fitting.proofs.Made.{entered, entries_made}
+use Rattle.fitting.proofs.Tokens.{Gate, Away, Knock, Wait, Turned, Entering, is_entering, returns, returns_of}
+use Rattle.fitting.proofs.Pasts.{Admitted, joined_grows}
+use Rattle.fitting.proofs.Still.{effect-standing}
 use Rattle.replicas.proofs.Mail.{carries}
 use Rattle.replicas.proofs.Scenes.{mine, count_of, awaits_node, doing_of, one_if}
 use Rattle.fitting.proofs.Accounts.{Accounts, answer_with, owed_by, replies_to, reply_by, is_word_at}

@@ -23,7 +23,7 @@ use Rattle.registry_model.proofs.Updates.{at_same}
 use Rattle.moves.proofs.Indices.{both}
 use Rattle.walk.proofs.ChainKinds.{Hearing, suits}
 use Rattle.walk.proofs.Orders.{effect-node}
-use Rattle.join_gates.proofs.Made.{answered, answer_of, answers_made}
+use Rattle.fitting.proofs.Made.{answered, answer_of, answers_made}
 use Rattle.fitting.proofs.Accounts.{is_word}
 use Rattle.fitting.proofs.Settling.{reply_to-word, grant_word}
 use Rattle.client_locks.proofs.Calls.{home_of_call}

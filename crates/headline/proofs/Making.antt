@@ -21,7 +21,7 @@ use Rattle.moves.proofs.Rules.{Rule, Walked}
 use Rattle.walk.proofs.ChainKinds.{is_allowed}
 use Rattle.walk.proofs.Walk.{OrderedWalk, walked_in_order}
 use Rattle.replicas.proofs.Scenes.{struck_by, struck_of, scene_of, AreStruck}
-use Rattle.join_gates.proofs.Made.{entered, entries_made}
+use Rattle.fitting.proofs.Made.{entered, entries_made}
 use Rattle.headline.proofs.Together.{Whole, widens, rule_whole, course_keeps}
 
 -- the entry is of node a, and is made by a letter where it needs one

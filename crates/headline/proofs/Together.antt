@@ -21,9 +21,9 @@ use Rattle.lock_sessions.proofs.Exclusion.{exclusive}
 use Rattle.replicas.proofs.States.{lone_owners}
 use Rattle.replicas.proofs.Known.{Known}
 use Rattle.replicas.proofs.Keeps.{replicas_known, known_opens, known_keeps}
-use Rattle.join_gates.proofs.Gates.{Joins}
-use Rattle.join_gates.proofs.Shown.{LoneOwners}
-use Rattle.join_gates.proofs.Joins.{joins_keeps, joins_opens, joins_known}
+use Rattle.fitting.proofs.Gates.{Joins}
+use Rattle.fitting.proofs.Shown.{LoneOwners}
+use Rattle.fitting.proofs.Joins.{joins_keeps, joins_opens, joins_known}
 
 module _ (o : Opening) where
   -- all that holds between two rules

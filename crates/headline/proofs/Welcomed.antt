@@ -24,8 +24,8 @@ use Rattle.moves.proofs.Rules.{Rule, Taken, Walked}
 use Rattle.moves.proofs.Indices.{neither}
 use Rattle.moves.proofs.Invariants.{IsUp, standing_at, Replicas}
 use Rattle.walk.proofs.Events.{Accepted, accepted_of}
-use Rattle.join_gates.proofs.Made.{answered, answers_made}
-use Rattle.join_gates.proofs.Pasts.{Admitted, admitted_holds}
+use Rattle.fitting.proofs.Made.{answered, answers_made}
+use Rattle.fitting.proofs.Pasts.{Admitted, admitted_holds}
 use Rattle.replicas.proofs.Mail.{carries, is_applied}
 use Rattle.replicas.proofs.Scenes.{is_mine, mine, scene_of, before, is_late, doing_of, awaits_node, one_if, count_of}
 use Rattle.replicas.proofs.BaseLetters.{list_any-none}

@@ -13,12 +13,12 @@ use Rattle.protocol_model.specs.World.{Opening, in_cluster, World, left, WorldEv
 use Rattle.protocol_model.specs.Course.{Played, played, course}
 use Rattle.protocol_model.specs.Fit.{maker_of, is_delivery, is_left, left_of}
 use Rattle.protocol_model.proofs.Finding.{item_passes}
-use Rattle.moves.proofs.Rules.{Walked}
-use Rattle.fitting.proofs.Rests.{Rested, rested_opens, rested_keeps, place_runs}
-use Rattle.fitting.proofs.Events.{event_enters}
-use Rattle.headline.specs.Clauses.{world}
-use Rattle.headline.proofs.Together.{Whole, replicas, course_keeps}
-use Rattle.headline.proofs.Making.{is_made, event_made}
+use Rattle.creations.proofs.Rules.{Walked}
+use Rattle.creations.proofs.Rests.{Rested, rested_opens, rested_keeps, place_runs}
+use Rattle.creations.proofs.FittingEvents.{event_enters}
+use Rattle.creations.specs.Clauses.{world}
+use Rattle.creations.proofs.Together.{Whole, replicas, course_keeps}
+use Rattle.creations.proofs.Making.{is_made, event_made}
 use Rattle.history_words.proofs.Entries.{entered_left}
 use Rattle.history_words.proofs.Lone.{entered_behind}
 

@@ -20,8 +20,8 @@ use Rattle.protocol_model.specs.Calling.{die, kill, call, event}
 use Rattle.protocol_model.specs.Reading.{refused_join, welcome, told_of, lose_join, lose_current, bereave, read, receive}
 use Rattle.protocol_model.specs.World.{Opening, in_world, World, WorldEvent, At, Deliver, place, join_number, heard, refusal, turn_of, accepted}
 use Rattle.protocol_model.proofs.Waiting.{accepted-node}
-use Rattle.moves.proofs.Indices.{greatest_in}
-use Rattle.headline.specs.Clauses.{world}
+use Rattle.creations.proofs.Indices.{greatest_in}
+use Rattle.creations.specs.Clauses.{world}
 use Rattle.history_words.specs.Beginning.{TellsTheGreatest, BeginsOperation, StrikesComeFirst}
 
 -- none of a set is greater than the greatest

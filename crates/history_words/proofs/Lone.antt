@@ -15,15 +15,15 @@ use Rattle.protocol_model.specs.Registrar.{answer_op}
 use Rattle.protocol_model.specs.Client.{is_spent}
 use Rattle.protocol_model.specs.Event.{Event, Refusal}
 use Rattle.protocol_model.specs.World.{Opening, World, WorldEvent, At, Deliver, place, join_number, turn_of, accepted}
-use Rattle.moves.proofs.Rules
-use Rattle.moves.proofs.Rules.{Rule}
+use Rattle.creations.proofs.Rules
+use Rattle.creations.proofs.Rules.{Rule}
 use Rattle.walk.proofs.Joins.{admitted-joined}
 use Rattle.walk.proofs.Walk.{OrderedWalk, walked_in_order}
-use Rattle.join_gates.proofs.Made.{entered, entries_made}
-use Rattle.headline.specs.Clauses.{world}
-use Rattle.headline.proofs.OpenCalls.{node_behind}
-use Rattle.headline.proofs.Together.{Whole, widens}
-use Rattle.headline.proofs.Theorem.{whole}
+use Rattle.creations.proofs.Made.{entered, entries_made}
+use Rattle.creations.specs.Clauses.{world}
+use Rattle.creations.proofs.OpenCalls.{node_behind}
+use Rattle.creations.proofs.Together.{Whole, widens}
+use Rattle.creations.proofs.Theorem.{whole}
 use Rattle.history_words.specs.Entries.{RefusesWhileLone}
 
 -- a turn behind which the node shows that it is joined

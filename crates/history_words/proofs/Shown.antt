@@ -17,8 +17,8 @@ use Rattle.registry_model.proofs.Holding.{Holds-standing_of, left_out-hold_at}
 use Rattle.protocol_model.specs.World.{Opening, in_cluster, WorldEvent}
 use Rattle.protocol_model.specs.Course.{entries_of}
 use Rattle.protocol_model.specs.Headline.{Headline}
-use Rattle.headline.specs.Clauses.{now, events}
-use Rattle.headline.proofs.Theorem.{agreement}
+use Rattle.creations.specs.Clauses.{now, events}
+use Rattle.creations.proofs.Theorem.{agreement}
 use Rattle.history_words.specs.Shown.{IsShownOf, ShowsTheRegistry, ShowsInWords, NodesShowInWords}
 
 -- what a node has to show of a registry whose tables rise

@@ -20,8 +20,8 @@ use Rattle.protocol_model.specs.World.{in_cluster, World}
 use Rattle.creations.specs.NodeNames.{opening_of}
 use Rattle.creations.specs.NamedWorld.{as_events}
 use Rattle.creations.proofs.NamedRuns.{named_runs_are_runs}
-use Rattle.headline.specs.Clauses.{world}
-use Rattle.headline.proofs.Theorem.{history_is_legal}
+use Rattle.creations.specs.Clauses.{world}
+use Rattle.creations.proofs.Theorem.{history_is_legal}
 use Rattle.history_words.specs.Entries.{HasJoined, ByJoin, IsAdmitted, ByDone, OperationHolds, IsJoinReply, Granted, OfLone, OfGone, ShowsTheReply, IsReadReply, ByAll, WithoutOne, SaysWhatStood, LegalSaysWhatStood, WorldsSayWhatStood, NamedWorldsSayWhatStood, WorldSaysWhatStood}
 use Rattle.history_words.proofs.Shown.{shown_of}
 use Rattle.history_words.proofs.Acting.{acts_while_there}

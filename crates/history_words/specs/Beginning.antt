@@ -7,7 +7,7 @@ use Rattle.protocol_model.specs.Round.{Round, greatest}
 use Rattle.protocol_model.specs.Watch.{owed}
 use Rattle.protocol_model.specs.Node.{Node, Op, Current}
 use Rattle.protocol_model.specs.World.{Opening, WorldEvent, happens}
-use Rattle.headline.specs.Clauses.{world}
+use Rattle.creations.specs.Clauses.{world}
 
 -- `greatest` of a set, which a round over it asks first (`ask_global`, `ask_lock`), is one of it, and none of it is greater
 abbrev pub TellsTheGreatest : Type 0

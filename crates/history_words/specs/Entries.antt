@@ -13,7 +13,7 @@ use Rattle.protocol_model.specs.World.{Opening, in_cluster, WorldEvent, refusal,
 use Rattle.protocol_model.specs.Fit.{maker_of}
 use Rattle.creations.specs.NodeNames.{NamedOpening, opening_of}
 use Rattle.creations.specs.NamedWorld.{NamedEvent, after_events}
-use Rattle.headline.specs.Clauses.{world}
+use Rattle.creations.specs.Clauses.{world}
 use Rattle.history_words.specs.Shown.{IsShownOf}
 
 -- n was told that d has left: by a notice, or when it joined by a contact that was told

@@ -13,7 +13,7 @@ use Rattle.protocol_model.specs.World.{Opening, WorldEvent, At, opening_world, a
 use Rattle.protocol_model.specs.Course.{IsRunning}
 use Rattle.protocol_model.specs.Answers.{answer_to, is_unnumbered}
 use Rattle.protocol_model.specs.Refusals.{MayLookUp}
-use Rattle.headline.specs.Clauses.{world, events, so_far}
+use Rattle.creations.specs.Clauses.{world, events, so_far}
 
 -- What n shows is the registry's
 pub record IsShownOf (r : Registry) (n : ℕ) (v : Replica) : Type 0 where

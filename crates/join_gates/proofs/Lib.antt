@@ -1,3 +1,6 @@
+pub use Rattle.moves.proofs.Indices
+pub use Rattle.moves.proofs.Invariants
+pub use Rattle.moves.proofs.Rules
 pub mod Made
 pub mod Tokens
 pub mod Links

@@ -23,9 +23,9 @@ use Rattle.protocol_model.specs.Registrar.{start, retry_global}
 use Rattle.protocol_model.specs.Client.{new_call, retry_locks}
 use Rattle.protocol_model.specs.Calling.{die, call}
 use Rattle.protocol_model.specs.World.{Opening, in_world, in_cluster, World, left, WorldEvent, At, Deliver, refusal, join_number, heard, turn_of, accepted, opening_world}
-use Rattle.moves.proofs.Indices.{both}
-use Rattle.moves.proofs.Rules.{Walked}
-use Rattle.moves.proofs.Invariants.{IsUp}
+use Rattle.headline.proofs.Indices.{both}
+use Rattle.headline.proofs.Rules.{Walked}
+use Rattle.headline.proofs.Invariants.{IsUp}
 use Rattle.walk.proofs.Events.{Accepted, accepted_of}
 use Rattle.walk.proofs.Walk.{event_walked}
 use Rattle.protocol_model.specs.Leftovers.{world, Always, DeathsAreCarriedOut, KnownDeadOwnNothing}

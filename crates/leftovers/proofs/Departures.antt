@@ -15,14 +15,14 @@ use Rattle.protocol_model.specs.Turn.{sent_to}
 use Rattle.protocol_model.specs.Reading.{with_member, admitted}
 use Rattle.protocol_model.specs.World.{Opening, in_world, World, left, opening_world}
 use Rattle.registry_model.proofs.Updates.{by_test, at_same, at_other}
-use Rattle.moves.proofs.Rules
-use Rattle.moves.proofs.Rules.{Rule, Taken, FrontTaken}
-use Rattle.moves.proofs.Indices.{both}
-use Rattle.moves.proofs.Sends.{sent_to-all}
-use Rattle.moves.proofs.Invariants.{IsUp}
-use Rattle.lock_sessions.proofs.Base.{popped_queue, popped, after_turn, is_leave, effect-turn, letters_from, taken_first, popped-other}
-use Rattle.client_locks.proofs.Serving.{front_named}
-use Rattle.moves.proofs.Writes.{wrote_all-keeps}
+use Rattle.headline.proofs.Rules
+use Rattle.headline.proofs.Rules.{Rule, Taken, FrontTaken}
+use Rattle.headline.proofs.Indices.{both}
+use Rattle.headline.proofs.Sends.{sent_to-all}
+use Rattle.headline.proofs.Invariants.{IsUp}
+use Rattle.headline.proofs.Base.{popped_queue, popped, after_turn, is_leave, effect-turn, letters_from, taken_first, popped-other}
+use Rattle.headline.proofs.Serving.{front_named}
+use Rattle.headline.proofs.Writes.{wrote_all-keeps}
 use Rattle.leftovers.proofs.Grounds.{Base}
 use Rattle.leftovers.proofs.Parts.{replica_by, locks_by, parts}
 use Rattle.leftovers.proofs.GrantLists.{all_grants, all_filter, all_kept, all_grant, all_give_back}

@@ -9,8 +9,8 @@ use Rattle.protocol_model.specs.Node.{Op, Current}
 use Rattle.protocol_model.specs.Turn.{Turn, with_queue}
 use Rattle.protocol_model.specs.Registrar.{start_queue, start_next, start_free, start, ask_join, contact_left}
 use Rattle.protocol_model.specs.Calling.{die, kill}
-use Rattle.client_locks.proofs.Growing.{dead_too}
-use Rattle.client_locks.proofs.Ids.{is_process_same}
+use Rattle.headline.proofs.Growing.{dead_too}
+use Rattle.headline.proofs.Ids.{is_process_same}
 use Rattle.headline.proofs.Exiting.{dead_last}
 
 -- the start of the next operation kills nobody, and changes no watch

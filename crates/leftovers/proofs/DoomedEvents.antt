@@ -22,10 +22,10 @@ use Rattle.protocol_model.specs.Client.{hear_lock}
 use Rattle.protocol_model.specs.Calling.{kill, queued}
 use Rattle.protocol_model.specs.Reading.{admitted, welcomed, judge, take_back, refused_join, welcome, told_of, bereave, read, receive}
 use Rattle.protocol_model.specs.World.{Opening, in_world, in_cluster, World, left, WorldEvent, At, Deliver, join_number, turn_of, accepted}
-use Rattle.moves.proofs.Indices.{both}
-use Rattle.moves.proofs.Rules
-use Rattle.moves.proofs.Invariants
-use Rattle.moves.proofs.Invariants.{IsUp, Each, is_welcome}
+use Rattle.headline.proofs.Indices.{both}
+use Rattle.headline.proofs.Rules
+use Rattle.headline.proofs.Invariants
+use Rattle.headline.proofs.Invariants.{IsUp, Each, is_welcome}
 use Rattle.leftovers.proofs.Grounds.{Base, replicas, heard_joins, base_keeps}
 use Rattle.leftovers.proofs.RestWork.{ask_rest-node}
 use Rattle.leftovers.proofs.Extends.{are_harmless, kills_by, has_kill, kill_more, Adds, adds_none, adds_then, adds_same, adds_sends, adds_entry, add_send, add_start, add_ask_rest, add_await_less, add_owe, add_hear_lock, add_lose_all, add_kill}

@@ -14,9 +14,9 @@ use Rattle.protocol_model.specs.Turn.{Turn, Send, at_work, with_queue, keep_call
 use Rattle.protocol_model.specs.Registrar.{ask_global, finish, done, ask_rest, await_less, contact_left, lose_contact, ask_join, start_queue, start_next, start_free, start, retry_global}
 use Rattle.protocol_model.specs.Client.{is_spent, in_phase, close_call, ask_lock, try_lock, give_lock, end_lock_by, go_on_lock, hear_lock_in, hear_lock, owe_less_in, owe_less, lose_node_in, retry_in, delete_lock, ask_back, one_less}
 use Rattle.protocol_model.specs.Calling.{die, kill}
-use Rattle.moves.proofs.Indices.{both}
-use Rattle.moves.proofs.Rules.{kills_in}
-use Rattle.moves.proofs.Sends.{sent_to-append}
+use Rattle.headline.proofs.Indices.{both}
+use Rattle.headline.proofs.Rules.{kills_in}
+use Rattle.headline.proofs.Sends.{sent_to-append}
 
 -- somebody dies by this entry
 abbrev pub is_deadly : Entry → Bool

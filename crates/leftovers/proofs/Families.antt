@@ -4,10 +4,10 @@ use Rattle.std.specs.Prelude.{if◌then◌else◌}
 use Rattle.protocol_model.specs.Node.{Node}
 use Rattle.protocol_model.specs.World.{Opening, in_world, World, left, WorldEvent, opening_world, run}
 use Rattle.registry_model.proofs.Updates.{by_test}
-use Rattle.moves.proofs.Rules
-use Rattle.moves.proofs.Rules.{Rule}
+use Rattle.headline.proofs.Rules
+use Rattle.headline.proofs.Rules.{Rule}
 use Rattle.walk.proofs.Orders.{effect-node}
-use Rattle.lock_sessions.proofs.Base.{effect-turn}
+use Rattle.headline.proofs.Base.{effect-turn}
 use Rattle.leftovers.proofs.Grounds.{Base, Both, along, between}
 use Rattle.leftovers.proofs.Departures.{Departed, departed_keeps, departed_opens}
 use Rattle.leftovers.proofs.Near.{Near, near_keeps, near_opens}

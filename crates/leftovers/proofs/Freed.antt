@@ -18,15 +18,15 @@ use Rattle.protocol_model.specs.Turn.{begun, send_all, keep_call, sent_to}
 use Rattle.protocol_model.specs.Client.{in_phase}
 use Rattle.protocol_model.specs.World.{Opening, in_world, World, left, opening_world}
 use Rattle.registry_model.proofs.Updates.{by_test, at_same, at_other}
-use Rattle.moves.proofs.Indices.{both, neither, not_true}
-use Rattle.moves.proofs.Sends.{sent_to-one, sent_to-all}
-use Rattle.moves.proofs.Rules
-use Rattle.moves.proofs.Rules.{Rule, Taken, IsNew, IsRetried}
-use Rattle.moves.proofs.Invariants.{IsUp}
+use Rattle.headline.proofs.Indices.{both, neither, not_true}
+use Rattle.headline.proofs.Sends.{sent_to-one, sent_to-all}
+use Rattle.headline.proofs.Rules
+use Rattle.headline.proofs.Rules.{Rule, Taken, IsNew, IsRetried}
+use Rattle.headline.proofs.Invariants.{IsUp}
 use Rattle.walk.proofs.Events.{live_own}
-use Rattle.lock_sessions.proofs.Base.{popped, popped_queue, after_turn, effect-turn, letters_from, taken_first, popped-other}
-use Rattle.client_locks.proofs.Ids.{is_process_same, is_process_self}
-use Rattle.client_locks.proofs.Clients.{call_at}
+use Rattle.headline.proofs.Base.{popped, popped_queue, after_turn, effect-turn, letters_from, taken_first, popped-other}
+use Rattle.headline.proofs.Ids.{is_process_same, is_process_self}
+use Rattle.headline.proofs.ClientLocksClients.{call_at}
 use Rattle.leftovers.proofs.Grounds.{Base}
 use Rattle.leftovers.proofs.Parts.{watch_by, locks_by, parts}
 use Rattle.leftovers.proofs.GrantLists.{all_grants, all_filter, all_kept, all_grant, all_give_back}

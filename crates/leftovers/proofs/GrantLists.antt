@@ -6,7 +6,7 @@ use Rattle.std.proofs.lemmas.Bool.Decides.{nat_tests}
 use Rattle.registry_model.specs.Process.{Process}
 use Rattle.protocol_model.specs.Letter.{Id}
 use Rattle.protocol_model.specs.LockTable.{Locks, is_grant_of, grant, give_back}
-use Rattle.moves.proofs.Indices.{both}
+use Rattle.headline.proofs.Indices.{both}
 
 -- every grant passes a test of its id and its holder
 abbrev pub all_grants : (Id → Process → Bool) → Locks → Bool

@@ -7,12 +7,12 @@ use Rattle.protocol_model.specs.LockTable.{Locks, is_free_for, grant}
 use Rattle.protocol_model.specs.Node.{Node}
 use Rattle.protocol_model.specs.World.{Opening, in_world, World, opening_world}
 use Rattle.registry_model.proofs.Updates.{by_test}
-use Rattle.moves.proofs.Rules
-use Rattle.moves.proofs.Rules.{Rule}
-use Rattle.moves.proofs.Invariants.{Each}
+use Rattle.headline.proofs.Rules
+use Rattle.headline.proofs.Rules.{Rule}
+use Rattle.headline.proofs.Invariants.{Each}
 use Rattle.walk.proofs.Orders.{effect-node}
-use Rattle.lock_sessions.proofs.LockTables.{is_global}
-use Rattle.lock_sessions.proofs.Locking.{IsNamed}
+use Rattle.headline.proofs.LockTables.{is_global}
+use Rattle.headline.proofs.Locking.{IsNamed}
 use Rattle.leftovers.proofs.Grounds.{Base}
 use Rattle.leftovers.proofs.Parts.{locks_by, parts}
 use Rattle.leftovers.proofs.GrantLists.{all_grants, all_count, all_filter, all_grant, all_give_back, count_grant, count_give_back}

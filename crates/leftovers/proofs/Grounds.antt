@@ -3,19 +3,19 @@ use Rattle.std.proofs.Common.{ℕ, ◌≡◌, Option, Some, None, List, [], ◌�
 use Rattle.std.specs.Prelude.{is_none, if◌then◌else◌}
 use Rattle.protocol_model.specs.Event.{Refusal}
 use Rattle.protocol_model.specs.World.{Opening, World, WorldEvent, opening_world, refusal, accepted, run}
-use Rattle.moves.proofs.Rules
-use Rattle.moves.proofs.Rules.{Rule, Ordered, Walked}
-use Rattle.moves.proofs.Invariants.{Proper, Replicas, JoinsKnown}
+use Rattle.headline.proofs.Rules
+use Rattle.headline.proofs.Rules.{Rule, Ordered, Walked}
+use Rattle.headline.proofs.Invariants.{Proper, Replicas, JoinsKnown}
 use Rattle.walk.proofs.Receiving.{WelcomeWidens}
 use Rattle.walk.proofs.Runs
 use Rattle.walk.proofs.Orders.{ordered_keeps, ordered_opens}
 use Rattle.walk.proofs.Joins.{JoinsOnce, joins_once_opens, joins_once_keeps}
-use Rattle.client_locks.proofs.Clients.{Numbers, Clients}
-use Rattle.client_locks.proofs.Numbers.{num_by}
-use Rattle.client_locks.proofs.Keeping.{clients_keeps}
-use Rattle.client_locks.proofs.Opening.{no_numbers, clients_opens}
-use Rattle.client_locks.proofs.Walking.{State, run_state, opening_state}
-use Rattle.client_locks.proofs.RoundNumbers
+use Rattle.headline.proofs.ClientLocksClients.{Numbers, Clients}
+use Rattle.headline.proofs.Numbers.{num_by}
+use Rattle.headline.proofs.Keeping.{clients_keeps}
+use Rattle.headline.proofs.Opening.{no_numbers, clients_opens}
+use Rattle.headline.proofs.Walking.{State, run_state, opening_state}
+use Rattle.headline.proofs.RoundNumbers
 use Rattle.headline.proofs.Clients.{grounds}
 use Rattle.headline.proofs.Together
 use Rattle.headline.proofs.Together.{All, all_opens, all_keeps, widens}

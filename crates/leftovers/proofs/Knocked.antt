@@ -12,18 +12,18 @@ use Rattle.protocol_model.specs.Registrar.{registrar}
 use Rattle.protocol_model.specs.Client.{in_phase, close_call, give_lock, is_spent}
 use Rattle.protocol_model.specs.World.{Opening, World, left, opening_world}
 use Rattle.registry_model.proofs.Updates.{by_test, at_same, at_other}
-use Rattle.moves.proofs.Indices.{at_pair}
-use Rattle.moves.proofs.Rules
-use Rattle.moves.proofs.Rules.{Rule}
-use Rattle.moves.proofs.Invariants.{IsUp, replica}
+use Rattle.headline.proofs.Indices.{at_pair}
+use Rattle.headline.proofs.Rules
+use Rattle.headline.proofs.Rules.{Rule}
+use Rattle.headline.proofs.Invariants.{IsUp, replica}
 use Rattle.walk.proofs.Orders.{effect-node}
-use Rattle.join_gates.proofs.Tokens.{Gate, Away, Knock, Wait, Turned, Entering, is_away}
-use Rattle.join_gates.proofs.Gates.{Gates, shut}
-use Rattle.join_gates.proofs.Joins.{gate_by, gates_keep}
-use Rattle.join_gates.proofs.Departs.{gate_dropped}
+use Rattle.headline.proofs.Tokens.{Gate, Away, Knock, Wait, Turned, Entering, is_away}
+use Rattle.headline.proofs.Gates.{Gates, shut}
+use Rattle.headline.proofs.Joins.{gate_by, gates_keep}
+use Rattle.headline.proofs.Departs.{gate_dropped}
 use Rattle.headline.proofs.Together
 use Rattle.leftovers.proofs.Grounds.{Base, replicas}
-use Rattle.lock_sessions.proofs.Base.{effect-turn}
+use Rattle.headline.proofs.Base.{effect-turn}
 
 -- its join is under way
 abbrev pub AreOpen : Opening → World → (ℕ → ℕ → Gate) → Type 0

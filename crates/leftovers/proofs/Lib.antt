@@ -1,31 +1,31 @@
-pub use Rattle.client_locks.proofs.Answering
-pub use Rattle.client_locks.proofs.Beginnings
-pub use Rattle.client_locks.proofs.Calling
-pub use Rattle.client_locks.proofs.Calls
-pub use Rattle.client_locks.proofs.Chains
-pub use Rattle.client_locks.proofs.Clients
-pub use Rattle.client_locks.proofs.Deaths as ClientDeaths
-pub use Rattle.client_locks.proofs.Growing
-pub use Rattle.client_locks.proofs.HeardChains
-pub use Rattle.client_locks.proofs.Ids
-pub use Rattle.client_locks.proofs.Keeping
-pub use Rattle.client_locks.proofs.LockTables
-pub use Rattle.client_locks.proofs.Mail
-pub use Rattle.client_locks.proofs.Numbering
-pub use Rattle.client_locks.proofs.Numbers
-pub use Rattle.client_locks.proofs.Ongoing
-pub use Rattle.client_locks.proofs.Opening
-pub use Rattle.client_locks.proofs.RoundNumbers
-pub use Rattle.client_locks.proofs.Rounds
-pub use Rattle.client_locks.proofs.Serving
-pub use Rattle.client_locks.proofs.SessionMoves
-pub use Rattle.client_locks.proofs.Sessions
-pub use Rattle.client_locks.proofs.Steps
-pub use Rattle.client_locks.proofs.Tallies
-pub use Rattle.client_locks.proofs.Told
-pub use Rattle.client_locks.proofs.TriedEvents
-pub use Rattle.client_locks.proofs.Tries
-pub use Rattle.client_locks.proofs.Walking
+pub use Rattle.headline.proofs.ClientLocksAnswering as Answering
+pub use Rattle.headline.proofs.Beginnings
+pub use Rattle.headline.proofs.Calling
+pub use Rattle.headline.proofs.Calls
+pub use Rattle.headline.proofs.Chains
+pub use Rattle.headline.proofs.ClientLocksClients as Clients
+pub use Rattle.headline.proofs.Deaths as ClientDeaths
+pub use Rattle.headline.proofs.Growing
+pub use Rattle.headline.proofs.HeardChains
+pub use Rattle.headline.proofs.Ids
+pub use Rattle.headline.proofs.Keeping
+pub use Rattle.headline.proofs.ClientLocksLockTables as LockTables
+pub use Rattle.headline.proofs.ClientLocksMail as Mail
+pub use Rattle.headline.proofs.Numbering
+pub use Rattle.headline.proofs.Numbers
+pub use Rattle.headline.proofs.Ongoing
+pub use Rattle.headline.proofs.Opening
+pub use Rattle.headline.proofs.RoundNumbers
+pub use Rattle.headline.proofs.Rounds
+pub use Rattle.headline.proofs.Serving
+pub use Rattle.headline.proofs.SessionMoves
+pub use Rattle.headline.proofs.ClientLocksSessions as Sessions
+pub use Rattle.headline.proofs.ClientLocksSteps as Steps
+pub use Rattle.headline.proofs.Tallies
+pub use Rattle.headline.proofs.ClientLocksTold as Told
+pub use Rattle.headline.proofs.TriedEvents
+pub use Rattle.headline.proofs.Tries
+pub use Rattle.headline.proofs.Walking
 pub use Rattle.headline.proofs.Answered
 pub use Rattle.headline.proofs.Callers
 pub use Rattle.headline.proofs.Clients as HeadlineClients
@@ -44,11 +44,33 @@ pub use Rattle.headline.proofs.Tied
 pub use Rattle.headline.proofs.Together
 pub use Rattle.headline.proofs.Turns
 pub use Rattle.headline.proofs.Unanswered
-pub use Rattle.join_gates.proofs.Made
-pub use Rattle.lock_sessions.proofs.Base
+pub use Rattle.headline.proofs.Made
+pub use Rattle.headline.proofs.Base
 pub use Rattle.walk.proofs.Events
 pub use Rattle.walk.proofs.Orders
 pub use Rattle.walk.proofs.Walk
+pub use Rattle.headline.proofs.OpenCalls
+pub use Rattle.headline.proofs.Rests
+pub use Rattle.headline.proofs.Events as FittingEvents
+pub use Rattle.headline.proofs.Making
+pub use Rattle.headline.proofs.Pasts
+pub use Rattle.headline.proofs.Gates
+pub use Rattle.headline.proofs.States
+pub use Rattle.headline.proofs.Tokens
+pub use Rattle.headline.proofs.Once
+pub use Rattle.headline.proofs.FittingUnanswered
+pub use Rattle.headline.proofs.OpenEvents
+pub use Rattle.headline.proofs.Locking
+pub use Rattle.headline.proofs.Sessions as LockSessionsSessions
+pub use Rattle.headline.proofs.LockSessionsRounds
+pub use Rattle.headline.proofs.Scenes
+pub use Rattle.headline.proofs.Mail as ReplicasMail
+pub use Rattle.headline.proofs.Deciding
+pub use Rattle.headline.proofs.LockTables as LockSessionsLockTables
+pub use Rattle.headline.proofs.Courses
+pub use Rattle.headline.proofs.Still
+pub use Rattle.headline.proofs.Asked
+pub use Rattle.headline.proofs.Exiting
 pub mod Grounds
 pub mod Deaths
 pub mod Parts

@@ -14,17 +14,17 @@ use Rattle.protocol_model.specs.Node.{Current}
 use Rattle.protocol_model.specs.ClientLocks.{is_no_more, holds_count}
 use Rattle.protocol_model.specs.Course.{global_given}
 use Rattle.protocol_model.specs.World.{Opening, in_world, World, left, WorldEvent}
-use Rattle.moves.proofs.Indices.{both, not_true}
-use Rattle.moves.proofs.Invariants.{IsUp}
-use Rattle.lock_sessions.proofs.LockTables.{is_global, globals, Row, Nobody, Held, grants_of, share}
-use Rattle.lock_sessions.proofs.Sessions.{Stage, Session, requests_at, answers_at, share_at, fits, mark_in}
-use Rattle.client_locks.proofs.RoundNumbers
-use Rattle.client_locks.proofs.Sessions.{settled_le}
-use Rattle.client_locks.proofs.Mail.{asks}
-use Rattle.client_locks.proofs.Clients.{Numbers, Clients, IsLive, live_parts, lives}
-use Rattle.client_locks.proofs.Tallies.{numbers_agree}
+use Rattle.headline.proofs.Indices.{both, not_true}
+use Rattle.headline.proofs.Invariants.{IsUp}
+use Rattle.headline.proofs.LockTables.{is_global, globals, Row, Nobody, Held, grants_of, share}
+use Rattle.headline.proofs.Sessions.{Stage, Session, requests_at, answers_at, share_at, fits, mark_in}
+use Rattle.headline.proofs.RoundNumbers
+use Rattle.headline.proofs.ClientLocksSessions.{settled_le}
+use Rattle.headline.proofs.ClientLocksMail.{asks}
+use Rattle.headline.proofs.ClientLocksClients.{Numbers, Clients, IsLive, live_parts, lives}
+use Rattle.headline.proofs.Tallies.{numbers_agree}
 use Rattle.protocol_model.proofs.Ids.{is_id_self}
-use Rattle.client_locks.proofs.Ids.{is_process_same, is_process_self}
+use Rattle.headline.proofs.Ids.{is_process_same, is_process_self}
 use Rattle.headline.proofs.Together.{All}
 use Rattle.protocol_model.specs.Leftovers.{world, Always, IsQuiet, HeldLocksStand, LocksAreAsTold, NoEmptyGrants, NobodyKeepsTheGlobalLock, DeadHoldersHoldNothing, FreeLocksAreGranted}
 use Rattle.leftovers.proofs.Grounds.{lock_state}

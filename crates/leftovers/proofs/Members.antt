@@ -13,13 +13,13 @@ use Rattle.protocol_model.specs.Turn.{begun, send_all, keep_call, sent_to}
 use Rattle.protocol_model.specs.Client.{in_phase}
 use Rattle.protocol_model.specs.World.{Opening, World, left, opening_world}
 use Rattle.registry_model.proofs.Updates.{by_test, at_same, at_other}
-use Rattle.moves.proofs.Indices.{greatest_in, some_of, neither}
-use Rattle.moves.proofs.Sends.{sent_to-one, sent_to-all}
-use Rattle.moves.proofs.Rules
-use Rattle.moves.proofs.Rules.{Rule}
-use Rattle.moves.proofs.Invariants.{IsUp, Each, IsProper}
+use Rattle.headline.proofs.Indices.{greatest_in, some_of, neither}
+use Rattle.headline.proofs.Sends.{sent_to-one, sent_to-all}
+use Rattle.headline.proofs.Rules
+use Rattle.headline.proofs.Rules.{Rule}
+use Rattle.headline.proofs.Invariants.{IsUp, Each, IsProper}
 use Rattle.walk.proofs.Killing.{admitted-members}
-use Rattle.lock_sessions.proofs.Base.{popped, after_turn, effect-turn}
+use Rattle.headline.proofs.Base.{popped, after_turn, effect-turn}
 use Rattle.leftovers.proofs.Grounds.{Base, wide}
 use Rattle.leftovers.proofs.Parts.{replica_by, locks_by, parts}
 use Rattle.leftovers.proofs.GrantLists.{all_grants, all_filter, all_grant, all_give_back}

@@ -13,11 +13,11 @@ use Rattle.protocol_model.specs.Watch.{is_dead, least_owner, lesser}
 use Rattle.protocol_model.specs.Node.{Op, Current, is_writing}
 use Rattle.protocol_model.specs.Event.{is_joining}
 use Rattle.protocol_model.specs.World.{Opening, in_world, in_cluster, World, left}
-use Rattle.moves.proofs.Indices.{both, not_true}
-use Rattle.moves.proofs.Invariants
-use Rattle.moves.proofs.Invariants.{IsUp, Replicas, standing_at}
-use Rattle.join_gates.proofs.Tokens.{Gate, Away, Knock, Wait, Turned, Entering, is_away, knocks, returns, admissions, jobs, asked_for, knocks_of, returns_of, queued_of, is_wait}
-use Rattle.replicas.proofs.States
+use Rattle.headline.proofs.Indices.{both, not_true}
+use Rattle.headline.proofs.Invariants
+use Rattle.headline.proofs.Invariants.{IsUp, Replicas, standing_at}
+use Rattle.headline.proofs.Tokens.{Gate, Away, Knock, Wait, Turned, Entering, is_away, knocks, returns, admissions, jobs, asked_for, knocks_of, returns_of, queued_of, is_wait}
+use Rattle.headline.proofs.States
 use Rattle.protocol_model.specs.Leftovers.{world, Always, IsQuiet, DeparturesAreTold, NoNameOnADepartedNode, DeadOwnersOwnNothing}
 use Rattle.leftovers.proofs.Grounds.{replicas}
 use Rattle.leftovers.proofs.Rest.{WorkRests}
@@ -25,7 +25,7 @@ use Rattle.leftovers.proofs.Started.{Idle}
 use Rattle.leftovers.proofs.Owners.{joined_owner}
 use Rattle.leftovers.proofs.Families.{Whole, whole}
 use Rattle.leftovers.proofs.Quiet.{rid, at_ease, registrars}
-use Rattle.client_locks.proofs.Ids.{is_process_self}
+use Rattle.headline.proofs.Ids.{is_process_self}
 
 pub departures_are_told : Always DeparturesAreTold
 departures_are_told o es c d quiet up gone = (rid o (world o es) (whole o es) quiet c d up gone).0

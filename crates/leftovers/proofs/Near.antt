@@ -9,15 +9,15 @@ use Rattle.protocol_model.specs.Node.{Node, LockPhase, Target, targets, call_of}
 use Rattle.protocol_model.specs.Client.{is_spent, in_phase}
 use Rattle.protocol_model.specs.World.{Opening, World, opening_world}
 use Rattle.registry_model.proofs.Updates.{by_test}
-use Rattle.moves.proofs.Indices.{both}
-use Rattle.moves.proofs.Rules
-use Rattle.moves.proofs.Rules.{Rule}
+use Rattle.headline.proofs.Indices.{both}
+use Rattle.headline.proofs.Rules
+use Rattle.headline.proofs.Rules.{Rule}
 use Rattle.walk.proofs.Killing.{admitted-members}
 use Rattle.walk.proofs.Orders.{effect-node}
 use Rattle.leftovers.proofs.Grounds.{Base, wide}
 use Rattle.leftovers.proofs.Parts.{replica_by, parts}
 use Rattle.leftovers.proofs.Departures.{told_by_rule}
-use Rattle.client_locks.proofs.Ongoing.{asked_answer, asked_down, asked_begin}
+use Rattle.headline.proofs.Ongoing.{asked_answer, asked_down, asked_begin}
 use Rattle.leftovers.proofs.Phases.{StepOk, Puts, Drops, AllPhases, step_of, phases_stepped, calls_turn, put_home}
 
 -- is a member, or was told to have left

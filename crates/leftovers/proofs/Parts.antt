@@ -12,8 +12,8 @@ use Rattle.protocol_model.specs.Registrar.{registrar}
 use Rattle.protocol_model.specs.Client.{in_phase, close_call, give_lock, is_spent}
 use Rattle.protocol_model.specs.Reading.{admitted, welcomed, bereft}
 use Rattle.protocol_model.specs.World.{Opening, World}
-use Rattle.moves.proofs.Rules
-use Rattle.moves.proofs.Rules.{Rule}
+use Rattle.headline.proofs.Rules
+use Rattle.headline.proofs.Rules.{Rule}
 
 abbrev pub replica_by : ℕ → Rule → Replica → Replica
 replica_by a (Rules.Writes f change) v = wrote change v

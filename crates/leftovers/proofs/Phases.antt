@@ -13,10 +13,10 @@ use Rattle.protocol_model.specs.Turn.{begun, at_work, with_locks, keep_call, sen
 use Rattle.protocol_model.specs.Registrar.{registrar}
 use Rattle.protocol_model.specs.Client.{in_phase, close_call, give_lock, is_spent}
 use Rattle.protocol_model.specs.World.{Opening, World}
-use Rattle.moves.proofs.Rules
-use Rattle.moves.proofs.Rules.{Rule, IsNew, IsRetried, IsOpen, is_ordered}
+use Rattle.headline.proofs.Rules
+use Rattle.headline.proofs.Rules.{Rule, IsNew, IsRetried, IsOpen, is_ordered}
 use Rattle.walk.proofs.Events.{live_own}
-use Rattle.client_locks.proofs.Calls.{call_of-put, call_of-drop, home_of_call}
+use Rattle.headline.proofs.Calls.{call_of-put, call_of-drop, home_of_call}
 
 -- one call is put, or one ends
 pub data CallStep : Type 0 where

@@ -7,15 +7,15 @@ use Rattle.protocol_model.specs.Letter.{Id, Letter}
 use Rattle.protocol_model.specs.Node.{Current, LockPhase, LockCall}
 use Rattle.protocol_model.specs.LockTable.{count}
 use Rattle.protocol_model.specs.World.{Opening, in_world, World, left}
-use Rattle.moves.proofs.Indices.{is_empty_from}
-use Rattle.moves.proofs.Invariants.{IsUp}
-use Rattle.lock_sessions.proofs.Sessions.{Stage, Free, Returning, AskedAgain, Asked, GrantComing, RefusalComing, HasGrant, HasRefusal, Session, fits, requests_at, answers_at, request_in, answer_in, found, mark_in}
-use Rattle.replicas.proofs.Scenes
-use Rattle.replicas.proofs.Mail.{carries, is_applied}
-use Rattle.client_locks.proofs.Sessions.{View, Live, view}
-use Rattle.client_locks.proofs.Sessions
-use Rattle.client_locks.proofs.Mail.{asks, echoes}
-use Rattle.client_locks.proofs.Clients.{Numbers, Clients, call_at, lives, caller_lives}
+use Rattle.headline.proofs.Indices.{is_empty_from}
+use Rattle.headline.proofs.Invariants.{IsUp}
+use Rattle.headline.proofs.Sessions.{Stage, Free, Returning, AskedAgain, Asked, GrantComing, RefusalComing, HasGrant, HasRefusal, Session, fits, requests_at, answers_at, request_in, answer_in, found, mark_in}
+use Rattle.headline.proofs.Scenes
+use Rattle.headline.proofs.Mail.{carries, is_applied}
+use Rattle.headline.proofs.ClientLocksSessions.{View, Live, view}
+use Rattle.headline.proofs.ClientLocksSessions as Sessions
+use Rattle.headline.proofs.ClientLocksMail.{asks, echoes}
+use Rattle.headline.proofs.ClientLocksClients.{Numbers, Clients, call_at, lives, caller_lives}
 use Rattle.protocol_model.specs.Leftovers.{IsQuiet}
 use Rattle.leftovers.proofs.RoundFacts.{is_to_come, is_before}
 use Rattle.leftovers.proofs.Departures.{IsRid, has_down}

@@ -9,10 +9,10 @@ use Rattle.protocol_model.specs.Turn.{begun, send_all, at_work, keep_call}
 use Rattle.protocol_model.specs.Registrar.{registrar}
 use Rattle.protocol_model.specs.Client.{close_call, give_lock, is_spent, in_phase}
 use Rattle.protocol_model.specs.World.{Opening, World}
-use Rattle.moves.proofs.Sends.{to_each}
-use Rattle.moves.proofs.SendTests.{all_pass, pass_append, pass_each}
-use Rattle.moves.proofs.Rules
-use Rattle.moves.proofs.Rules.{Rule}
+use Rattle.headline.proofs.Sends.{to_each}
+use Rattle.headline.proofs.SendTests.{all_pass, pass_append, pass_each}
+use Rattle.headline.proofs.Rules
+use Rattle.headline.proofs.Rules.{Rule}
 
 -- the letter neither asks for a client's lock nor answers who asked for one
 abbrev pub is_apart : Letter → Bool

@@ -10,13 +10,13 @@ use Rattle.protocol_model.specs.Node.{Node, Current, LockPhase, LockCall, call_o
 use Rattle.protocol_model.specs.Event.{is_join}
 use Rattle.protocol_model.specs.World.{Opening, in_world}
 use Rattle.registry_model.proofs.Updates.{by_test, at_same}
-use Rattle.moves.proofs.Indices.{some_of}
-use Rattle.moves.proofs.Rules.{is_ordered}
+use Rattle.headline.proofs.Indices.{some_of}
+use Rattle.headline.proofs.Rules.{is_ordered}
 use Rattle.walk.proofs.LockRounds.{IsOwn}
 use Rattle.walk.proofs.Calls.{is_ordered-drop_call, is_ordered-put_call}
-use Rattle.client_locks.proofs.Calls.{call_of-put, call_of-drop, holder_of_call}
-use Rattle.client_locks.proofs.Ids.{is_process_self}
-use Rattle.client_locks.proofs.Ongoing.{asked_answer, asked_down, asked_begin}
+use Rattle.headline.proofs.Calls.{call_of-put, call_of-drop, holder_of_call}
+use Rattle.headline.proofs.Ids.{is_process_self}
+use Rattle.headline.proofs.Ongoing.{asked_answer, asked_down, asked_begin}
 use Rattle.leftovers.proofs.RoundFacts.{is_to_come, is_before, to_come_answer, to_come_down, to_come_gone, to_come_begin, boss_answer, boss_down, boss_begin, over_begin}
 
 -- these are awaited: nodes of the world, of which none was told to have left; there is one

@@ -12,7 +12,7 @@ use Rattle.protocol_model.specs.Registrar.{ask_rest}
 use Rattle.protocol_model.specs.Client.{is_spent, one_less, in_phase, close_call, ask_lock, try_lock, give_lock, end_lock_by, go_on_lock, hear_lock_in, hear_lock, owe_less_in, owe_less, lose_node_in, retry_in, delete_lock, ask_back}
 use Rattle.protocol_model.specs.Calling.{die, kill}
 use Rattle.protocol_model.specs.World.{Opening}
-use Rattle.moves.proofs.Rules.{is_ordered}
+use Rattle.headline.proofs.Rules.{is_ordered}
 use Rattle.walk.proofs.LockRounds.{IsOwn}
 use Rattle.walk.proofs.Calls.{AllOpen, OrderedParts, ordered_parts, all_open, ordered_found}
 use Rattle.leftovers.proofs.Near.{target_member}

@@ -23,9 +23,9 @@ use Rattle.protocol_model.specs.Reading.{admitted, welcomed, bereft, judge, take
 use Rattle.protocol_model.specs.World.{Opening, in_world, World, left, WorldEvent, At, Deliver, place, refusal, join_number, heard, turn_of, accepted, opening_world, in_cluster, local_causes}
 use Rattle.protocol_model.proofs.Waiting.{accepted-node}
 use Rattle.registry_model.proofs.Updates.{by_test, at_other}
-use Rattle.moves.proofs.Indices.{both, not_true}
-use Rattle.moves.proofs.Invariants
-use Rattle.moves.proofs.Invariants.{Each}
+use Rattle.headline.proofs.Indices.{both, not_true}
+use Rattle.headline.proofs.Invariants
+use Rattle.headline.proofs.Invariants.{Each}
 use Rattle.walk.proofs.Joins.{joining_lone}
 use Rattle.walk.proofs.Welcomes.{lone_alone}
 use Rattle.walk.proofs.Events.{Accepted, accepted_of, lock_tested, live_own}

@@ -18,7 +18,7 @@ use Rattle.protocol_model.specs.Registrar.{registrar, ask_global, answer_op, fin
 use Rattle.protocol_model.specs.Deciding.{admit, held, end_by, go_on, hear_answer, lose}
 use Rattle.protocol_model.specs.World.{Opening, in_world}
 use Rattle.registry_model.proofs.Updates.{by_test}
-use Rattle.moves.proofs.Indices.{both, empty_at}
+use Rattle.headline.proofs.Indices.{both, empty_at}
 use Rattle.leftovers.proofs.Rest.{Awaited, RoundOn, RoundRests, WorkRests, Grouped, Sides, Stands, ToldMore, begin_rests, answer_on, down_on, less_awaited, same_awaited}
 
 -- an admission is of a node of the world

@@ -5,8 +5,8 @@ use Rattle.std.proofs.lemmas.Bool.{eq-eqb}
 use Rattle.registry_model.specs.Process.{Nodes}
 use Rattle.protocol_model.specs.Round.{Mark, Out, Later, Owes, Round, is_out, is_empty, greatest, begin, asked, owes, asked_too, answer, mark_down, down, is_over, is_refused, is_gone, has_granted, is_owes}
 use Rattle.registry_model.proofs.Updates.{by_test}
-use Rattle.moves.proofs.Indices.{greatest_in}
-use Rattle.client_locks.proofs.Rounds.{mark_by, Answered, Own, Stays, Opened, mark_answered, answer_boss}
+use Rattle.headline.proofs.Indices.{greatest_in}
+use Rattle.headline.proofs.Rounds.{mark_by, Answered, Own, Stays, Opened, mark_answered, answer_boss}
 
 -- is to answer, now or later
 abbrev pub is_to_come : Mark → Bool

@@ -9,11 +9,11 @@ use Rattle.protocol_model.specs.Letter.{Id, Letter}
 use Rattle.protocol_model.specs.LockTable.{is_free_for, grant}
 use Rattle.protocol_model.specs.Turn.{begun, send, sent_to, with_locks}
 use Rattle.protocol_model.specs.World.{Opening, World}
-use Rattle.moves.proofs.Indices.{both, neither, not_true}
-use Rattle.moves.proofs.SendTests.{all_pass, pass_sent, pass_more}
-use Rattle.moves.proofs.Rules
-use Rattle.moves.proofs.Rules.{Rule, Taken, FrontTaken}
-use Rattle.lock_sessions.proofs.Base.{popped_queue, letters_from, taken_first, popped-other}
+use Rattle.headline.proofs.Indices.{both, neither, not_true}
+use Rattle.headline.proofs.SendTests.{all_pass, pass_sent, pass_more}
+use Rattle.headline.proofs.Rules
+use Rattle.headline.proofs.Rules.{Rule, Taken, FrontTaken}
+use Rattle.headline.proofs.Base.{popped_queue, letters_from, taken_first, popped-other}
 use Rattle.leftovers.proofs.Requests.{is_apart, sends_apart}
 
 -- a client's process asks for a grant

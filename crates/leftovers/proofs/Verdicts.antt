@@ -27,11 +27,11 @@ use Rattle.protocol_model.specs.Turn.{Turn, at_work, enter, sent_to}
 use Rattle.protocol_model.specs.Registrar.{finish, write, give_up}
 use Rattle.protocol_model.specs.Deciding.{admit, held, end_by, go_on}
 use Rattle.protocol_model.specs.World.{Opening, in_cluster, World, left}
-use Rattle.moves.proofs.Indices.{both}
-use Rattle.moves.proofs.Invariants.{IsUp, standing_at}
-use Rattle.moves.proofs.Sends.{sent_to-append, sent_to-one, sent_to-all, to_each}
-use Rattle.replicas.proofs.States
-use Rattle.replicas.proofs.Legality
+use Rattle.headline.proofs.Indices.{both}
+use Rattle.headline.proofs.Invariants.{IsUp, standing_at}
+use Rattle.headline.proofs.Sends.{sent_to-append, sent_to-one, sent_to-all, to_each}
+use Rattle.headline.proofs.States
+use Rattle.headline.proofs.Legality
 use Rattle.leftovers.proofs.Grounds.{Base, replicas, heard_joins}
 use Rattle.leftovers.proofs.Extends.{harmless_append, is_deadly, are_harmless, has_kill, kill_more, kill_later, Adds, adds_none, adds_then, adds_same, adds_sends, adds_entry, add_finish}
 

@@ -6,7 +6,7 @@ use Rattle.registry_model.specs.History.{Hold, hold_at}
 use Rattle.protocol_model.specs.Letter.{Letter}
 use Rattle.protocol_model.specs.World.{Opening, World}
 use Rattle.protocol_model.specs.Leftovers.{world, Always, DeathsAreCarriedOutWhenFree}
-use Rattle.moves.proofs.Invariants.{Each, is_write, standing_at, IsOnItsWay}
+use Rattle.headline.proofs.Invariants.{Each, is_write, standing_at, IsOnItsWay}
 use Rattle.headline.proofs.Together
 use Rattle.leftovers.proofs.Extends.{has_kill, kills_by}
 use Rattle.leftovers.proofs.Carried.{doomed_along}

@@ -16,19 +16,19 @@ use Rattle.protocol_model.specs.Client.{in_phase, is_spent, close_call, give_loc
 use Rattle.protocol_model.specs.Registrar.{registrar, done}
 use Rattle.protocol_model.specs.Turn.{Turn, begun, send, send_all, at_work, with_locks, keep_call, sent_to}
 use Rattle.protocol_model.specs.World.{Opening, in_world, in_cluster, World, left, WorldEvent, opening_world, run}
-use Rattle.moves.proofs.Rules
-use Rattle.moves.proofs.Rules.{Rule, Taken, IsHeld}
-use Rattle.moves.proofs.Invariants.{Each, IsUp, standing_at}
-use Rattle.moves.proofs.Sends.{to_each}
-use Rattle.moves.proofs.SendTests.{all_pass, pass_each, pass_sent}
-use Rattle.lock_sessions.proofs.Base.{is_leave, effect-turn, after_turn, each-map, each-popped, each-posted, each-all, each-append, each-one, popped}
-use Rattle.moves.proofs.Sends.{sent_to-append}
-use Rattle.join_gates.proofs.Pasts.{registry-after, joined_grows}
-use Rattle.headline.proofs.Together
-use Rattle.leftovers.proofs.Grounds.{Base, Both, base_keeps, along}
+use Rattle.named_events.proofs.Rules
+use Rattle.named_events.proofs.Rules.{Rule, Taken, IsHeld}
+use Rattle.named_events.proofs.Invariants.{Each, IsUp, standing_at}
+use Rattle.named_events.proofs.Sends.{to_each}
+use Rattle.named_events.proofs.SendTests.{all_pass, pass_each, pass_sent}
+use Rattle.named_events.proofs.Base.{is_leave, effect-turn, after_turn, each-map, each-popped, each-posted, each-all, each-append, each-one, popped}
+use Rattle.named_events.proofs.Sends.{sent_to-append}
+use Rattle.named_events.proofs.Pasts.{registry-after, joined_grows}
+use Rattle.named_events.proofs.Together
+use Rattle.named_events.proofs.Grounds.{Base, Both, base_keeps, along}
 use Rattle.protocol_model.specs.Event.{is_joining}
-use Rattle.join_gates.proofs.Gates.{OnceIn, has_join}
-use Rattle.replicas.proofs.States.{joined_now}
+use Rattle.named_events.proofs.Gates.{OnceIn, has_join}
+use Rattle.named_events.proofs.States.{joined_now}
 use Rattle.no_dead_end.specs.Work.{running}
 use Rattle.no_dead_end.proofs.RuleWork.{Ready}
 use Rattle.no_dead_end.proofs.LetterWork.{joins}

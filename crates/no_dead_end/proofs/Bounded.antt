@@ -12,7 +12,7 @@ use Rattle.protocol_model.specs.Letter.{Letter}
 use Rattle.protocol_model.specs.Node.{Node, Op, Current, LockPhase, LockCall}
 use Rattle.protocol_model.specs.World.{Opening, World, opening_world, run}
 use Rattle.protocol_model.specs.Leftovers.{Always}
-use Rattle.leftovers.proofs.Grounds.{Base}
+use Rattle.named_events.proofs.Grounds.{Base}
 use Rattle.no_dead_end.specs.Weights.{sum_below, when, Weights, may_strike, of_link, of_round, of_current, of_phase, of_node, of_place, total}
 use Rattle.no_dead_end.specs.Work.{is_put, owned_on, live_on, mark_work, put_work, undecided_work, queued_work, change_work, letter_work, work_weights, size, running, may_die}
 use Rattle.no_dead_end.specs.Units.{units_of_op, units_of_current, units_of_node, units_of_letter, all_units, WorkIsBounded}

@@ -11,10 +11,10 @@ use Rattle.protocol_model.specs.Node.{Node, LockPhase, LockCall, call_of, put_ca
 use Rattle.protocol_model.specs.Turn.{begun, keep_call, send_all}
 use Rattle.protocol_model.specs.Registrar.{ask_rest}
 use Rattle.protocol_model.specs.Client.{is_spent, in_phase, close_call, ask_lock, give_lock, refuse_lock, ask_back}
-use Rattle.moves.proofs.Rules.{is_ordered, die_to}
+use Rattle.named_events.proofs.Rules.{is_ordered, die_to}
 use Rattle.walk.proofs.Calls.{OrderedParts, ordered_parts, all_after, AllAfter, call_of-holder}
-use Rattle.client_locks.proofs.Ids.{is_process_same}
-use Rattle.client_locks.proofs.Rounds.{is_unasked}
+use Rattle.named_events.proofs.Ids.{is_process_same}
+use Rattle.named_events.proofs.Rounds.{is_unasked}
 use Rattle.no_dead_end.specs.Weights.{sum_below, when, of_phase}
 use Rattle.no_dead_end.proofs.Counting.{Counting, weights, marks}
 use Rattle.no_dead_end.proofs.Sums.{sum-le, sum-each}

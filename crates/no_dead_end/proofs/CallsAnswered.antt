@@ -15,20 +15,20 @@ use Rattle.protocol_model.specs.Course.{Played, answers_of}
 use Rattle.protocol_model.specs.Fit.{Numbered, accepted_at, decided_at}
 use Rattle.protocol_model.specs.Answers.{answer_to, number_of, entered_at, may_have, calls_at, answers_under, AtMostOne, NotYet, Once}
 use Rattle.protocol_model.specs.Leftovers.{Always, Runs}
-use Rattle.moves.proofs.Indices.{both}
-use Rattle.fitting.proofs.Accounts.{own, owed_by, is_word_at, replies_to}
-use Rattle.fitting.proofs.Chains.{Book}
-use Rattle.fitting.proofs.Once.{is_under, is_number, Paired, paired_history, paired_filter}
-use Rattle.fitting.proofs.Theorem
-use Rattle.fitting.proofs.Unanswered.{kept_in}
-use Rattle.headline.specs.Clauses.{events, world}
-use Rattle.headline.proofs.Answered.{ledgers, calls_answered}
-use Rattle.headline.proofs.LockAnswers.{IsCalled, is_for}
-use Rattle.headline.proofs.OpenCalls.{Stands, Gone, Answered, Waits}
-use Rattle.headline.proofs.OpenEvents.{all_stand}
-use Rattle.headline.proofs.Passing.{item_filtered}
-use Rattle.headline.proofs.Story.{ground}
-use Rattle.headline.proofs.Together.{Whole, whole_opens, run_whole, replicas}
+use Rattle.named_events.proofs.Indices.{both}
+use Rattle.named_events.proofs.Accounts.{own, owed_by, is_word_at, replies_to}
+use Rattle.named_events.proofs.FittingChains.{Book}
+use Rattle.named_events.proofs.Once.{is_under, is_number, Paired, paired_history, paired_filter}
+use Rattle.named_events.proofs.Theorem
+use Rattle.named_events.proofs.Unanswered.{kept_in}
+use Rattle.named_events.specs.Clauses.{events, world}
+use Rattle.named_events.proofs.Answered.{ledgers, calls_answered}
+use Rattle.named_events.proofs.LockAnswers.{IsCalled, is_for}
+use Rattle.named_events.proofs.OpenCalls.{Stands, Gone, Answered, Waits}
+use Rattle.named_events.proofs.OpenEvents.{all_stand}
+use Rattle.named_events.proofs.Passing.{item_filtered}
+use Rattle.named_events.proofs.Story.{ground}
+use Rattle.named_events.proofs.Together.{Whole, whole_opens, run_whole, replicas}
 use Rattle.no_dead_end.specs.QuietWorlds.{AtRest, Idle, Refused, Knocks}
 use Rattle.no_dead_end.specs.Answering.{IsDeletion, QuietWorldsAnswer, SettledWorldsAnswer}
 use Rattle.no_dead_end.proofs.QuietWorlds.{call_listed, quiet_worlds_rest}

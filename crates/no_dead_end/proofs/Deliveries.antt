@@ -10,7 +10,7 @@ use Rattle.protocol_model.specs.Leftovers.{Always, IsQuiet}
 use Rattle.protocol_model.proofs.Deliveries.{delivers_the_first}
 use Rattle.walk.proofs.Runs.{happens-accepted}
 use Rattle.walk.proofs.Walk.{walked_in_order}
-use Rattle.leftovers.proofs.Grounds.{Both, wide, both_event}
+use Rattle.named_events.proofs.Grounds.{Both, wide, both_event}
 use Rattle.no_dead_end.specs.Weights.{sum_below, when}
 use Rattle.no_dead_end.specs.Work.{size, running, work}
 use Rattle.no_dead_end.specs.Deliveries.{DeliveriesLower, SettlesInTime}

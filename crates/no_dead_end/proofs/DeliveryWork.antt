@@ -18,13 +18,13 @@ use Rattle.protocol_model.specs.Links.{is_nil}
 use Rattle.walk.proofs.Events.{no_cause, accepted_of}
 use Rattle.walk.proofs.Walk.{OrderedWalk}
 use Rattle.protocol_model.specs.ClientLocks.{is_no_more}
-use Rattle.client_locks.proofs.Growing.{gone_keeps}
-use Rattle.moves.proofs.Rules
-use Rattle.moves.proofs.Rules.{Rule, Taken, kills_in, is_quiet}
-use Rattle.moves.proofs.Indices.{both}
+use Rattle.named_events.proofs.Growing.{gone_keeps}
+use Rattle.named_events.proofs.Rules
+use Rattle.named_events.proofs.Rules.{Rule, Taken, kills_in, is_quiet}
+use Rattle.named_events.proofs.Indices.{both}
 use Rattle.walk.proofs.Worlds.{stays_front}
 use Rattle.walk.proofs.ChainKinds.{Hearing, suits, is_allowed}
-use Rattle.lock_sessions.proofs.Base.{is_leave}
+use Rattle.named_events.proofs.Base.{is_leave}
 use Rattle.no_dead_end.specs.Weights.{sum_below, when, of_link, of_node, of_place, total}
 use Rattle.no_dead_end.specs.Work.{live_on, letter_work, work_weights, may_die}
 use Rattle.no_dead_end.proofs.Sums.{sum-le}

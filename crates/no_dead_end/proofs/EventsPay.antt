@@ -11,11 +11,11 @@ use Rattle.protocol_model.specs.Event.{Event, Refusal}
 use Rattle.protocol_model.specs.World.{Opening, in_world, in_cluster, World, left, WorldEvent, At, Deliver, opening_world, refusal, accepted, happens, run}
 use Rattle.protocol_model.specs.Fit.{is_delivery}
 use Rattle.protocol_model.specs.Leftovers.{Always}
-use Rattle.moves.proofs.Indices.{both}
+use Rattle.named_events.proofs.Indices.{both}
 use Rattle.walk.proofs.Events.{accepted_of}
 use Rattle.walk.proofs.Runs.{happens-accepted}
 use Rattle.walk.proofs.Walk.{OrderedWalk, walked_in_order}
-use Rattle.leftovers.proofs.Grounds.{Both, wide, both_event}
+use Rattle.named_events.proofs.Grounds.{Both, wide, both_event}
 use Rattle.no_dead_end.specs.Weights.{sum_below, Weights, when, may_strike, of_place, total}
 use Rattle.no_dead_end.specs.Work.{size, running, may_die, work_weights, work}
 use Rattle.no_dead_end.specs.Payments.{event_pays, pays, paid, delivered, EventsPay}

@@ -17,17 +17,17 @@ use Rattle.protocol_model.specs.World.{Opening, in_world, World, left, WorldEven
 use Rattle.walk.proofs.Events.{accepted_of}
 use Rattle.walk.proofs.Runs.{happens-accepted}
 use Rattle.walk.proofs.Walk.{OrderedWalk, walked_in_order}
-use Rattle.leftovers.proofs.Grounds.{wide}
-use Rattle.creations.specs.NodeNames.{NamedOpening, HasNumber, is_name, node_of, name_of, creation_of, opening_of}
-use Rattle.creations.specs.NamedWorld.{NamedWorld, NamedEvent, NamedRefusal, Plain, present_node, has_started, next_node, named_refusal, refusal_at, plain_refusal, plain, accepted_named, happens_named, run_named, opening_named, after_events}
-use Rattle.creations.specs.NamedQuietCalls.{is_named_delivery}
-use Rattle.creations.specs.Restarts.{fresh_node, IsUp, StartsAnew}
-use Rattle.creations.proofs.Always.{always}
-use Rattle.creations.proofs.Inside.{IsCurrentIn, IsPhaseIn, IsCallIn, IsInside}
-use Rattle.creations.proofs.Catching
-use Rattle.creations.proofs.Numbers.{name-node, creation-node, node-number, inside-name}
-use Rattle.creations.proofs.Restarting.{MayRestart, may_restart, starts_anew}
-use Rattle.creations.proofs.Standing.{Sound, started_to, started_from, unrefused}
+use Rattle.named_events.proofs.Grounds.{wide}
+use Rattle.named_events.specs.NodeNames.{NamedOpening, HasNumber, is_name, node_of, name_of, creation_of, opening_of}
+use Rattle.named_events.specs.NamedWorld.{NamedWorld, NamedEvent, NamedRefusal, Plain, present_node, has_started, next_node, named_refusal, refusal_at, plain_refusal, plain, accepted_named, happens_named, run_named, opening_named, after_events}
+use Rattle.named_events.specs.NamedQuietCalls.{is_named_delivery}
+use Rattle.named_events.specs.Restarts.{fresh_node, IsUp, StartsAnew}
+use Rattle.named_events.proofs.Always.{always}
+use Rattle.named_events.proofs.Inside.{IsCurrentIn, IsPhaseIn, IsCallIn, IsInside}
+use Rattle.named_events.proofs.Catching
+use Rattle.named_events.proofs.Numbers.{name-node, creation-node, node-number, inside-name}
+use Rattle.named_events.proofs.Restarting.{MayRestart, may_restart, starts_anew}
+use Rattle.named_events.proofs.Standing.{Sound, started_to, started_from, unrefused}
 use Rattle.no_dead_end.specs.Weights.{sum_below, when, Weights, of_link, of_round, of_current, of_phase, of_node, of_place, total}
 use Rattle.no_dead_end.specs.Work.{may_die, work_weights}
 use Rattle.no_dead_end.specs.Payments.{event_pays}

@@ -8,12 +8,12 @@ use Rattle.protocol_model.specs.Event.{is_waiting}
 use Rattle.protocol_model.specs.World.{Opening, World, opening_world, run}
 use Rattle.protocol_model.specs.Leftovers.{Runs}
 use Rattle.protocol_model.proofs.Courses.{run-append}
-use Rattle.creations.specs.NodeNames.{NamedOpening, opening_of}
-use Rattle.creations.specs.NamedWorld.{NamedWorld, NamedEvent, has_started, after_events, as_events}
-use Rattle.creations.specs.Restarts.{IsUp}
-use Rattle.creations.specs.NamedLeftovers.{NamesAreQuiet}
-use Rattle.creations.proofs.NamedRuns.{named_runs_are_runs}
-use Rattle.creations.proofs.LeftOfNames
+use Rattle.named_events.specs.NodeNames.{NamedOpening, opening_of}
+use Rattle.named_events.specs.NamedWorld.{NamedWorld, NamedEvent, has_started, after_events, as_events}
+use Rattle.named_events.specs.Restarts.{IsUp}
+use Rattle.named_events.specs.NamedLeftovers.{NamesAreQuiet}
+use Rattle.named_events.proofs.NamedRuns.{named_runs_are_runs}
+use Rattle.named_events.proofs.LeftOfNames
 use Rattle.no_dead_end.specs.QuietWorlds.{admissions, AtRest, Idle, Refused, Knocks, IsAtRest, QuietWorldsRest}
 use Rattle.no_dead_end.specs.NamedNoDeadEnd.{AlwaysNamed, NamedQuietWorldsRest, NamedQuietWorldsAnswer, NamedSettledWorldsAnswer}
 use Rattle.no_dead_end.proofs.QuietWorlds.{leave_accepted, quiet_worlds_rest}

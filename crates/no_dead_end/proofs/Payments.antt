@@ -12,8 +12,8 @@ use Rattle.protocol_model.specs.Turn.{Turn, begun}
 use Rattle.protocol_model.specs.Event.{Event}
 use Rattle.protocol_model.specs.World.{Opening, in_world, World, WorldEvent, At, place, turn_of, apply, accepted}
 use Rattle.protocol_model.specs.ClientLocks.{is_no_more}
-use Rattle.client_locks.proofs.Chains.{up_before}
-use Rattle.moves.proofs.Rules
+use Rattle.named_events.proofs.Chains.{up_before}
+use Rattle.named_events.proofs.Rules
 use Rattle.walk.proofs.Walk.{OrderedWalk}
 use Rattle.no_dead_end.specs.Weights.{sum_below, when, Weights, of_link, of_round, of_current, of_phase, of_node, of_place, total}
 use Rattle.no_dead_end.specs.Work.{may_die}

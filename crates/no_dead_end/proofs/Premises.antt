@@ -16,26 +16,26 @@ use Rattle.protocol_model.specs.Letter.{Letter}
 use Rattle.protocol_model.specs.Node.{Op, Current, LockPhase, LockCall, call_of}
 use Rattle.protocol_model.specs.Event.{is_joining}
 use Rattle.protocol_model.specs.World.{Opening, in_world, in_cluster, World, left}
-use Rattle.moves.proofs.Rules.{IsHeld}
-use Rattle.moves.proofs.Indices.{both, neither, not_true, empty_at}
-use Rattle.moves.proofs.Invariants.{IsWritten, Each, IsOnItsWay, IsUp, standing_at, Replicas, JoinsKnown, IsProperCurrent}
-use Rattle.lock_sessions.proofs.Locking.{BossFirst, IsRound}
-use Rattle.lock_sessions.proofs.Locking
-use Rattle.lock_sessions.proofs.Sessions.{Stage, Session, fits, mark_in}
-use Rattle.lock_sessions.proofs.Rounds.{gone_fits, owes_ungranted}
-use Rattle.client_locks.proofs.Rounds.{is_unasked, only_boss_asked}
-use Rattle.client_locks.proofs.Sessions
-use Rattle.client_locks.proofs.Clients.{call_at, caller_lives, RoundedIn}
-use Rattle.client_locks.proofs.Mail.{asks, echoes}
-use Rattle.client_locks.proofs.Calls.{home_of_call}
-use Rattle.join_gates.proofs.Gates.{OnceIn, has_join, has_one}
-use Rattle.replicas.proofs.Scenes
-use Rattle.replicas.proofs.Mail.{carries, is_applied}
-use Rattle.replicas.proofs.Deciding.{shown}
-use Rattle.replicas.proofs.States.{groups_now, joined_now}
-use Rattle.headline.proofs.Together
-use Rattle.leftovers.proofs.Grounds.{Base}
-use Rattle.leftovers.proofs.Owners.{joined_owner}
+use Rattle.named_events.proofs.Rules.{IsHeld}
+use Rattle.named_events.proofs.Indices.{both, neither, not_true, empty_at}
+use Rattle.named_events.proofs.Invariants.{IsWritten, Each, IsOnItsWay, IsUp, standing_at, Replicas, JoinsKnown, IsProperCurrent}
+use Rattle.named_events.proofs.Locking.{BossFirst, IsRound}
+use Rattle.named_events.proofs.Locking
+use Rattle.named_events.proofs.Sessions.{Stage, Session, fits, mark_in}
+use Rattle.named_events.proofs.LockSessionsRounds.{gone_fits, owes_ungranted}
+use Rattle.named_events.proofs.Rounds.{is_unasked, only_boss_asked}
+use Rattle.named_events.proofs.ClientLocksSessions as Sessions
+use Rattle.named_events.proofs.Clients.{call_at, caller_lives, RoundedIn}
+use Rattle.named_events.proofs.Mail.{asks, echoes}
+use Rattle.named_events.proofs.Calls.{home_of_call}
+use Rattle.named_events.proofs.Gates.{OnceIn, has_join, has_one}
+use Rattle.named_events.proofs.Scenes
+use Rattle.named_events.proofs.ReplicasMail.{carries, is_applied}
+use Rattle.named_events.proofs.Deciding.{shown}
+use Rattle.named_events.proofs.States.{groups_now, joined_now}
+use Rattle.named_events.proofs.Together
+use Rattle.named_events.proofs.Grounds.{Base}
+use Rattle.named_events.proofs.Owners.{joined_owner}
 use Rattle.no_dead_end.specs.Weights.{when}
 use Rattle.no_dead_end.specs.Work.{owned_on, running}
 use Rattle.no_dead_end.proofs.LetterWork.{joins}

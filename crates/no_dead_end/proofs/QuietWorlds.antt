@@ -9,14 +9,14 @@ use Rattle.protocol_model.specs.Node.{Op, Current, LockPhase, LockCall, call_of,
 use Rattle.protocol_model.specs.Event.{Event, is_joining, is_waiting}
 use Rattle.protocol_model.specs.World.{Opening, in_world, World, left, At, refusal, opening_world, run}
 use Rattle.protocol_model.specs.Leftovers.{Always, Runs, IsQuiet}
-use Rattle.moves.proofs.Invariants.{IsUp, IsProperCurrent}
+use Rattle.named_events.proofs.Invariants.{IsUp, IsProperCurrent}
 use Rattle.walk.proofs.Calls.{AllOpen, all_open}
-use Rattle.join_gates.proofs.Tokens.{Gate, Away, Knock, Wait, Turned, Entering, is_away}
-use Rattle.join_gates.proofs.Tokens
-use Rattle.client_locks.proofs.Calls.{home_of_call}
-use Rattle.leftovers.proofs.Families.{Whole, whole}
-use Rattle.leftovers.proofs.Quiet.{registrars, calls_wait, rid, at_ease}
-use Rattle.leftovers.proofs.Rest.{WorkRests}
+use Rattle.named_events.proofs.Tokens.{Gate, Away, Knock, Wait, Turned, Entering, is_away}
+use Rattle.named_events.proofs.Tokens
+use Rattle.named_events.proofs.Calls.{home_of_call}
+use Rattle.named_events.proofs.Families.{Whole, whole}
+use Rattle.named_events.proofs.Quiet.{registrars, calls_wait, rid, at_ease}
+use Rattle.named_events.proofs.Rest.{WorkRests}
 use Rattle.no_dead_end.specs.QuietWorlds.{admits, admissions, AtRest, Idle, Refused, Knocks, QuietWorldsRest}
 
 -- a call of a list of open calls stands for its process

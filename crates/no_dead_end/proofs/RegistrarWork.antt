@@ -12,8 +12,8 @@ use Rattle.protocol_model.specs.Turn.{Turn, Send, begun, at_work, with_queue, se
 use Rattle.protocol_model.specs.Registrar.{registrar, ask_global, give_up, ask_rest, ask_join, contact_left, finish, done, write}
 use Rattle.protocol_model.specs.Event.{is_join}
 use Rattle.registry_model.specs.Call.{Reply}
-use Rattle.client_locks.proofs.Ids.{is_process_self}
-use Rattle.client_locks.proofs.Rounds.{is_unasked}
+use Rattle.named_events.proofs.Ids.{is_process_self}
+use Rattle.named_events.proofs.Rounds.{is_unasked}
 use Rattle.no_dead_end.specs.Weights.{sum_below, when, strikes, is_struck, may_strike, of_node}
 use Rattle.no_dead_end.specs.Work.{undecided_work, queued_work}
 use Rattle.no_dead_end.proofs.Counting.{Counting, weights, marks, at_current}

@@ -7,8 +7,8 @@ use Rattle.std.proofs.lemmas.Bool.{cases_eq}
 use Rattle.registry_model.specs.Process.{Nodes, nodes_of}
 use Rattle.registry_model.proofs.Updates.{by_test}
 use Rattle.protocol_model.specs.Round.{Mark, Out, Later, Owes, Granted, Refused, Lost, Gone, Round, is_empty, greatest, is_owes, is_out, is_gone, is_granted, begin, asked, rest, owes, asked_too, opens, answer, mark_down, down, granted}
-use Rattle.moves.proofs.Indices.{both, some_of, greatest_in, greatest_below}
-use Rattle.client_locks.proofs.Rounds.{is_unasked, mark_by, answer_opens, answer_owed}
+use Rattle.named_events.proofs.Indices.{both, some_of, greatest_in, greatest_below}
+use Rattle.named_events.proofs.Rounds.{is_unasked, mark_by, answer_opens, answer_owed}
 use Rattle.no_dead_end.specs.Weights.{sum_below, when}
 use Rattle.no_dead_end.specs.Work.{mark_work}
 use Rattle.no_dead_end.proofs.Counting.{Counting, marks}

@@ -14,12 +14,12 @@ use Rattle.protocol_model.specs.Letter.{Letter}
 use Rattle.protocol_model.specs.Node.{Node, Op, Current, LockPhase, LockCall, call_of, targets}
 use Rattle.protocol_model.specs.LockTable.{is_free_for}
 use Rattle.protocol_model.specs.World.{Opening, in_world, World, join_number, apply}
-use Rattle.moves.proofs.Rules
-use Rattle.moves.proofs.Rules.{Rule, Taken, is_ordered, IsHeld}
-use Rattle.moves.proofs.Indices.{neither}
-use Rattle.client_locks.proofs.Ids.{is_process_swap}
-use Rattle.client_locks.proofs.Rounds.{is_unasked, given_back}
-use Rattle.lock_sessions.proofs.Base.{is_leave}
+use Rattle.named_events.proofs.Rules
+use Rattle.named_events.proofs.Rules.{Rule, Taken, is_ordered, IsHeld}
+use Rattle.named_events.proofs.Indices.{neither}
+use Rattle.named_events.proofs.Ids.{is_process_swap}
+use Rattle.named_events.proofs.Rounds.{is_unasked, given_back}
+use Rattle.named_events.proofs.Base.{is_leave}
 use Rattle.no_dead_end.specs.Weights.{sum_below, when, strikes, total}
 use Rattle.no_dead_end.specs.Work.{is_put, owned_on, live_on, admission_work, put_work, queued_work}
 use Rattle.no_dead_end.proofs.Counting.{Counting, weights}

@@ -11,7 +11,7 @@ use Rattle.protocol_model.specs.Watch.{owed, least_owner, lesser}
 use Rattle.protocol_model.specs.Node.{Node, Op, Current}
 use Rattle.protocol_model.specs.Turn.{begun}
 use Rattle.protocol_model.specs.Registrar.{registrar, ask_global}
-use Rattle.client_locks.proofs.Ids.{is_process_same, is_process_self}
+use Rattle.named_events.proofs.Ids.{is_process_same, is_process_self}
 use Rattle.no_dead_end.specs.Weights.{when}
 use Rattle.no_dead_end.specs.Work.{undecided_work}
 use Rattle.no_dead_end.proofs.Counting.{Counting, at_current}

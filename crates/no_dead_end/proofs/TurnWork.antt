@@ -14,7 +14,7 @@ use Rattle.protocol_model.specs.Registrar.{contact_left, ask_join, start_queue, 
 use Rattle.protocol_model.specs.Client.{one_less, close_call, ask_lock, ask_back, try_lock, delete_lock, retry_in, retry_locks, new_call}
 use Rattle.protocol_model.specs.Calling.{die, queued, call, event}
 use Rattle.protocol_model.specs.Event.{Call, Event, is_waiting, is_waiting_call}
-use Rattle.moves.proofs.Rules
+use Rattle.named_events.proofs.Rules
 use Rattle.walk.proofs.Extends.{turn_extended}
 use Rattle.no_dead_end.specs.Weights.{when}
 use Rattle.no_dead_end.specs.Work.{round_work, queued_work}

@@ -1,3 +1,14 @@
+pub use Rattle.named_events.specs.NodeNames
+pub use Rattle.named_events.specs.NamedWorld
+pub use Rattle.named_events.specs.Restarts
+pub use Rattle.named_events.specs.Lifted
+pub use Rattle.named_events.specs.NamedLeftovers
+pub use Rattle.named_events.specs.NamedScript
+pub use Rattle.named_events.specs.Settling
+pub use Rattle.named_events.specs.Clauses
+pub use Rattle.named_events.specs.NamedQuietCalls
+pub use Rattle.named_events.specs.JoinNumbers
+pub use Rattle.named_events.specs.NobodyBack
 pub mod Weights
 pub mod Work
 pub mod Units

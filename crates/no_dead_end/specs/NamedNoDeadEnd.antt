@@ -4,12 +4,12 @@
 use Rattle.std.specs.Prelude.{ℕ, not, ◌&&◌, ◌*◌, ◌≡◌, ◌<◌, ◌≤◌, None, length, List}
 use Rattle.registry_model.specs.Process.{Nodes, nodes_of}
 use Rattle.protocol_model.specs.World.{in_world, left}
-use Rattle.creations.specs.NodeNames.{NamedOpening, is_name, opening_of}
-use Rattle.creations.specs.NamedWorld.{NamedWorld, NamedEvent, Deliver, has_started, named_refusal, happens_named, run_named, after_events}
-use Rattle.creations.specs.NamedScript.{SettleLimit, next_named, named_deliveries_left, settled}
-use Rattle.creations.specs.Restarts.{IsUp}
-use Rattle.creations.specs.NamedLeftovers.{NamesAreQuiet, NamesAreSettled}
-use Rattle.creations.specs.Lifted.{events_played}
+use Rattle.named_events.specs.NodeNames.{NamedOpening, is_name, opening_of}
+use Rattle.named_events.specs.NamedWorld.{NamedWorld, NamedEvent, Deliver, has_started, named_refusal, happens_named, run_named, after_events}
+use Rattle.named_events.specs.NamedScript.{SettleLimit, next_named, named_deliveries_left, settled}
+use Rattle.named_events.specs.Restarts.{IsUp}
+use Rattle.named_events.specs.NamedLeftovers.{NamesAreQuiet, NamesAreSettled}
+use Rattle.named_events.specs.Lifted.{events_played}
 use Rattle.no_dead_end.specs.Weights.{total}
 use Rattle.no_dead_end.specs.Work.{work_weights, may_die}
 use Rattle.no_dead_end.specs.Units.{all_units}

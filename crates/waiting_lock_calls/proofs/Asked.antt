@@ -13,11 +13,11 @@ use Rattle.protocol_model.specs.Turn.{Turn, Send, begun, with_queue, sent_to}
 use Rattle.protocol_model.specs.Registrar.{registrar, ask_join, contact_left, start_queue, start_next, start_free, start, retry_global}
 use Rattle.protocol_model.specs.Client.{one_less, close_call, ask_lock, try_lock, retry_in, retry_locks}
 use Rattle.protocol_model.specs.World.{World}
-use Rattle.moves.proofs.Indices.{both, some_of, greatest_in}
-use Rattle.moves.proofs.Invariants.{Each}
-use Rattle.moves.proofs.Sends.{sent_to-append}
-use Rattle.leftovers.proofs.Base.{each-one, each-append}
-use Rattle.leftovers.proofs.Requests.{is_apart}
+use Rattle.getting_through.proofs.Indices.{both, some_of, greatest_in}
+use Rattle.getting_through.proofs.Invariants.{Each}
+use Rattle.getting_through.proofs.Sends.{sent_to-append}
+use Rattle.getting_through.proofs.Base.{each-one, each-append}
+use Rattle.getting_through.proofs.Requests.{is_apart}
 use Rattle.waiting_lock_calls.specs.Retried.{asks}
 
 module _ (w : World) (a : ℕ) where

@@ -22,22 +22,22 @@ use Rattle.protocol_model.specs.Fit.{is_delivery}
 use Rattle.protocol_model.specs.Answers.{answer_to, may_have, calls_at, answers_under, AtMostOne, NotYet, Once}
 use Rattle.protocol_model.specs.Refusals.{HasOpenCall}
 use Rattle.protocol_model.specs.Leftovers.{IsQuiet, world}
-use Rattle.fitting.proofs.Unanswered.{kept_in}
-use Rattle.headline.specs.Clauses.{events}
-use Rattle.headline.proofs.Answered.{calls_answered}
-use Rattle.headline.proofs.Exiting.{dead_event}
-use Rattle.headline.proofs.OpenCalls.{Stands, Gone, Answered, Waits}
-use Rattle.headline.proofs.OpenEvents.{all_stand}
-use Rattle.headline.proofs.Tied.{course-push, run-push}
-use Rattle.headline.proofs.Unanswered.{open_waits}
-use Rattle.leftovers.proofs.Grounds.{lock_state}
-use Rattle.leftovers.proofs.RoundNumbers.{round_count}
-use Rattle.lock_answers.proofs.Behind.{walk_of}
-use Rattle.lock_answers.proofs.FailsReasoned.{fails_for_a_reason}
-use Rattle.lock_answers.proofs.LastCalls.{IsSet, is_set}
-use Rattle.lock_answers.proofs.Pushed.{events_push, happens_now}
-use Rattle.lock_answers.proofs.RetriesUsed.{uses_all_retries}
-use Rattle.lock_answers.proofs.Spending.{AreLeft}
+use Rattle.getting_through.proofs.Unanswered.{kept_in}
+use Rattle.getting_through.specs.Clauses.{events}
+use Rattle.getting_through.proofs.Answered.{calls_answered}
+use Rattle.getting_through.proofs.Exiting.{dead_event}
+use Rattle.getting_through.proofs.OpenCalls.{Stands, Gone, Answered, Waits}
+use Rattle.getting_through.proofs.OpenEvents.{all_stand}
+use Rattle.getting_through.proofs.Tied.{course-push, run-push}
+use Rattle.getting_through.proofs.HeadlineUnanswered.{open_waits}
+use Rattle.getting_through.proofs.Grounds.{lock_state}
+use Rattle.getting_through.proofs.RoundNumbers.{round_count}
+use Rattle.getting_through.proofs.Behind.{walk_of}
+use Rattle.getting_through.proofs.FailsReasoned.{fails_for_a_reason}
+use Rattle.getting_through.proofs.LastCalls.{IsSet, is_set}
+use Rattle.getting_through.proofs.Pushed.{events_push, happens_now}
+use Rattle.getting_through.proofs.RetriesUsed.{uses_all_retries}
+use Rattle.getting_through.proofs.Spending.{AreLeft}
 use Rattle.waiting_lock_calls.specs.Retried.{asks, IsItsLast, AsksNobody as NobodyIsAsked, HasNoneLeft}
 use Rattle.waiting_lock_calls.proofs.Tried.{AreTries, next_tries, found, home, more, last_left}
 

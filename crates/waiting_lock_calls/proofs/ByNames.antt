@@ -8,14 +8,14 @@ use Rattle.protocol_model.specs.Turn.{sent_to}
 use Rattle.protocol_model.specs.Event.{Event}
 use Rattle.protocol_model.specs.World.{Opening, World, left, WorldEvent, At, place, other, turn_of, refusal, accepted, happens}
 use Rattle.protocol_model.specs.Leftovers.{Runs}
-use Rattle.moves.proofs.Indices.{not_true}
+use Rattle.getting_through.proofs.Indices.{not_true}
 use Rattle.walk.proofs.Runs.{happens-accepted}
-use Rattle.creations.specs.NodeNames.{NamedOpening, name_of, creation_of, node_of, first_nodes, opening_of}
-use Rattle.creations.specs.NamedWorld.{NamedWorld, NamedEvent, NamedRefusal, present_node, sender_to, or_present, named_refusal, plain_refusal, plain_accepted}
-use Rattle.creations.specs.Restarts.{IsUp}
-use Rattle.creations.proofs.Numbers.{node-number}
-use Rattle.creations.proofs.Standing.{Sound, started_to}
-use Rattle.creations.proofs.StartedLists.{in_first}
+use Rattle.getting_through.specs.NodeNames.{NamedOpening, name_of, creation_of, node_of, first_nodes, opening_of}
+use Rattle.getting_through.specs.NamedWorld.{NamedWorld, NamedEvent, NamedRefusal, present_node, sender_to, or_present, named_refusal, plain_refusal, plain_accepted}
+use Rattle.getting_through.specs.Restarts.{IsUp}
+use Rattle.getting_through.proofs.Numbers.{node-number}
+use Rattle.getting_through.proofs.Standing.{Sound, started_to}
+use Rattle.getting_through.proofs.StartedLists.{in_first}
 use Rattle.getting_through.specs.GettingThrough.{is_delivery_or_retry}
 use Rattle.getting_through.specs.NamedGettingFree.{is_named_delivery_or_retry}
 use Rattle.waiting_lock_calls.proofs.OpenCalls.{none_leaves}

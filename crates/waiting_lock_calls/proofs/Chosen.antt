@@ -23,37 +23,37 @@ use Rattle.protocol_model.specs.Answers.{answer_to}
 use Rattle.protocol_model.specs.Leftovers.{IsQuiet, world}
 use Rattle.protocol_model.proofs.Ids.{is_id_self}
 use Rattle.protocol_model.proofs.Meanings.{grants_the_free}
-use Rattle.moves.proofs.Indices.{both, not_true, not_false, some_of, greatest_in}
-use Rattle.moves.proofs.Invariants.{Each, IsUp}
-use Rattle.moves.proofs.Rules
-use Rattle.moves.proofs.Rules.{Rule, May, MayAll, Taken}
+use Rattle.getting_through.proofs.Indices.{both, not_true, not_false, some_of, greatest_in}
+use Rattle.getting_through.proofs.Invariants.{Each, IsUp}
+use Rattle.getting_through.proofs.Rules
+use Rattle.getting_through.proofs.Rules.{Rule, May, MayAll, Taken}
 use Rattle.walk.proofs.Calls.{all_open}
 use Rattle.walk.proofs.ChainKinds.{Hearing, suits, leaves_locks}
 use Rattle.walk.proofs.Events.{accepted_of}
 use Rattle.walk.proofs.Chains.{LeaveLocks, TakeGone, is_gone_by}
 use Rattle.walk.proofs.Runs.{happens-accepted}
 use Rattle.walk.proofs.Walk.{OrderedWalk}
-use Rattle.lock_sessions.proofs.Locking.{IsNamed, call_of-client}
-use Rattle.headline.specs.Clauses.{events}
-use Rattle.headline.proofs.Tied.{run-push}
-use Rattle.leftovers.proofs.Calls.{home_of_call, holder_of_call}
-use Rattle.leftovers.proofs.Clients.{call_at}
-use Rattle.leftovers.proofs.Families.{whole}
-use Rattle.leftovers.proofs.Grounds.{Base, base_keeps, lock_state}
-use Rattle.leftovers.proofs.GrantLists.{all_grants}
-use Rattle.leftovers.proofs.Ids.{is_process_same, is_id_same}
-use Rattle.leftovers.proofs.Near.{target_member}
-use Rattle.leftovers.proofs.RoundFacts.{is_before, asked_of_owes}
-use Rattle.leftovers.proofs.RoundNumbers.{round_count}
-use Rattle.leftovers.proofs.Serving.{front_named}
-use Rattle.leftovers.proofs.Told.{chain_of}
-use Rattle.lock_answers.proofs.Behind.{walk_of, plain_hears}
-use Rattle.lock_answers.proofs.CallSteps.{found_at}
-use Rattle.lock_answers.proofs.Verdicts.{kept_in}
+use Rattle.getting_through.proofs.Locking.{IsNamed, call_of-client}
+use Rattle.getting_through.specs.Clauses.{events}
+use Rattle.getting_through.proofs.Tied.{run-push}
+use Rattle.getting_through.proofs.Calls.{home_of_call, holder_of_call}
+use Rattle.getting_through.proofs.Clients.{call_at}
+use Rattle.getting_through.proofs.Families.{whole}
+use Rattle.getting_through.proofs.Grounds.{Base, base_keeps, lock_state}
+use Rattle.getting_through.proofs.GrantLists.{all_grants}
+use Rattle.getting_through.proofs.Ids.{is_process_same, is_id_same}
+use Rattle.getting_through.proofs.Near.{target_member}
+use Rattle.getting_through.proofs.RoundFacts.{is_before, asked_of_owes}
+use Rattle.getting_through.proofs.RoundNumbers.{round_count}
+use Rattle.getting_through.proofs.Serving.{front_named}
+use Rattle.getting_through.proofs.Told.{chain_of}
+use Rattle.getting_through.proofs.Behind.{walk_of, plain_hears}
+use Rattle.getting_through.proofs.CallSteps.{found_at}
+use Rattle.getting_through.proofs.Verdicts.{kept_in}
 use Rattle.getting_through.proofs.Groups.{below as member_below}
-use Rattle.no_dead_end.specs.Work.{work}
-use Rattle.no_dead_end.proofs.Deliveries.{deliveries_lower}
-use Rattle.no_dead_end.proofs.QuietWorlds.{found_call}
+use Rattle.getting_through.specs.Work.{work}
+use Rattle.getting_through.proofs.Deliveries.{deliveries_lower}
+use Rattle.getting_through.proofs.QuietWorlds.{found_call}
 use Rattle.waiting_lock_calls.specs.Retried.{asks, IsRival}
 use Rattle.waiting_lock_calls.specs.HeldUp.{boss_of, comes_before}
 use Rattle.waiting_lock_calls.proofs.Tried.{behind, AreTries, first, next_tries, found, home, up}

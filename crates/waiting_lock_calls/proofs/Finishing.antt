@@ -23,23 +23,23 @@ use Rattle.protocol_model.specs.Refusals.{HasOpenCall}
 use Rattle.protocol_model.specs.Leftovers.{Always, Runs, IsQuiet, IsSettled, world}
 use Rattle.protocol_model.proofs.Courses.{run-append}
 use Rattle.protocol_model.proofs.Finding.{found_any}
-use Rattle.moves.proofs.Indices.{both}
-use Rattle.moves.proofs.Invariants.{IsUp}
+use Rattle.getting_through.proofs.Indices.{both}
+use Rattle.getting_through.proofs.Invariants.{IsUp}
 use Rattle.walk.proofs.Runs.{happens-accepted}
-use Rattle.fitting.proofs.Unanswered.{kept_in}
-use Rattle.headline.specs.Clauses.{events}
-use Rattle.headline.proofs.Tied.{run-push}
-use Rattle.headline.proofs.Unanswered.{open_waits, waits_open}
-use Rattle.leftovers.proofs.Base.{not_both}
-use Rattle.leftovers.proofs.Calls.{holder_of_call}
-use Rattle.leftovers.proofs.Clients.{call_at, IsLive, live_parts, caller_lives}
-use Rattle.leftovers.proofs.Families.{whole}
-use Rattle.leftovers.proofs.Grounds.{lock_state}
-use Rattle.leftovers.proofs.RoundNumbers.{round_count}
-use Rattle.lock_answers.proofs.CallTurns.{anew_in, anew}
-use Rattle.lock_answers.proofs.EventTurns.{AgainTurn, again_turn}
-use Rattle.no_dead_end.specs.Answering.{NameCallsAreAnswered}
-use Rattle.no_dead_end.proofs.QuietWorlds.{calls, call_listed}
+use Rattle.getting_through.proofs.Unanswered.{kept_in}
+use Rattle.getting_through.specs.Clauses.{events}
+use Rattle.getting_through.proofs.Tied.{run-push}
+use Rattle.getting_through.proofs.HeadlineUnanswered.{open_waits, waits_open}
+use Rattle.getting_through.proofs.Base.{not_both}
+use Rattle.getting_through.proofs.Calls.{holder_of_call}
+use Rattle.getting_through.proofs.Clients.{call_at, IsLive, live_parts, caller_lives}
+use Rattle.getting_through.proofs.Families.{whole}
+use Rattle.getting_through.proofs.Grounds.{lock_state}
+use Rattle.getting_through.proofs.RoundNumbers.{round_count}
+use Rattle.getting_through.proofs.CallTurns.{anew_in, anew}
+use Rattle.getting_through.proofs.EventTurns.{AgainTurn, again_turn}
+use Rattle.getting_through.specs.Answering.{NameCallsAreAnswered}
+use Rattle.getting_through.proofs.QuietWorlds.{calls, call_listed, quiet_worlds_rest}
 use Rattle.getting_through.specs.GettingThrough.{is_delivery_or_retry}
 use Rattle.getting_through.specs.GettingFree.{LeadsOn as GetFree}
 use Rattle.getting_through.proofs.Freeing.{registrars_get_free}
@@ -281,6 +281,7 @@ module _ (o : Opening) where
               listed = there;
               its_holder = holder_of_call p ((world o (es ++ fs)).node a).calls W.0 W.1;
               its_number = W.2;
+              waits = (quiet_worlds_rest o (es ++ fs) (settled).quiet).calls a W.0 up there;
               held_up = held a (below a up.0) refl up W.0 there;
             })
 

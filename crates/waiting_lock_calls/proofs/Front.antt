@@ -9,8 +9,8 @@ use Rattle.std.proofs.lemmas.List.Folds.{list_all-append}
 use Rattle.registry_model.specs.Process.{is_process}
 use Rattle.protocol_model.specs.Letter.{Letter}
 use Rattle.protocol_model.specs.Node.{LockCall}
-use Rattle.moves.proofs.Indices.{both}
-use Rattle.leftovers.proofs.Requests.{is_apart}
+use Rattle.getting_through.proofs.Indices.{both}
+use Rattle.getting_through.proofs.Requests.{is_apart}
 use Rattle.waiting_lock_calls.proofs.Unrivalled.{is_clear}
 
 module _ (c : LockCall) where

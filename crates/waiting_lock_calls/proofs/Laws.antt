@@ -23,29 +23,29 @@ use Rattle.protocol_model.specs.Answers.{answer_to, answers_under}
 use Rattle.protocol_model.specs.Refusals.{HasOpenCall}
 use Rattle.protocol_model.specs.Leftovers.{Always, IsQuiet, world}
 use Rattle.protocol_model.proofs.Courses.{run-append}
-use Rattle.moves.proofs.Invariants.{IsUp}
-use Rattle.fitting.proofs.Unanswered.{kept_in}
-use Rattle.headline.specs.Clauses.{events}
-use Rattle.headline.proofs.Unanswered.{open_waits}
-use Rattle.leftovers.proofs.Base.{not_both}
-use Rattle.leftovers.proofs.Calls.{holder_of_call}
-use Rattle.leftovers.proofs.Clients.{call_at}
-use Rattle.leftovers.proofs.Families.{whole}
-use Rattle.leftovers.proofs.Grounds.{lock_state}
-use Rattle.leftovers.proofs.GrantLists.{all_grants}
-use Rattle.leftovers.proofs.RoundNumbers.{round_count}
+use Rattle.getting_through.proofs.Invariants.{IsUp}
+use Rattle.getting_through.proofs.Unanswered.{kept_in}
+use Rattle.getting_through.specs.Clauses.{events}
+use Rattle.getting_through.proofs.HeadlineUnanswered.{open_waits}
+use Rattle.getting_through.proofs.Base.{not_both}
+use Rattle.getting_through.proofs.Calls.{holder_of_call}
+use Rattle.getting_through.proofs.Clients.{call_at}
+use Rattle.getting_through.proofs.Families.{whole}
+use Rattle.getting_through.proofs.Grounds.{lock_state}
+use Rattle.getting_through.proofs.GrantLists.{all_grants}
+use Rattle.getting_through.proofs.RoundNumbers.{round_count}
 use Rattle.walk.proofs.Runs.{happens-accepted}
-use Rattle.headline.proofs.Tied.{run-push}
-use Rattle.leftovers.proofs.Ongoing.{is_deleting}
-use Rattle.leftovers.proofs.Quiet.{calls_wait}
-use Rattle.leftovers.proofs.Tries.{IsTryOf}
-use Rattle.lock_answers.proofs.LastCalls.{known}
-use Rattle.lock_answers.proofs.LastTry.{last_of}
-use Rattle.lock_answers.proofs.Nobody.{some_same}
-use Rattle.lock_answers.proofs.RetriesUsed.{spent}
-use Rattle.lock_answers.proofs.Spending.{AreLeft, IsSpending}
-use Rattle.lock_answers.proofs.Waiting.{reads_the_seen}
-use Rattle.no_dead_end.proofs.QuietWorlds.{call_listed}
+use Rattle.getting_through.proofs.Tied.{run-push}
+use Rattle.getting_through.proofs.Ongoing.{is_deleting}
+use Rattle.getting_through.proofs.Quiet.{calls_wait}
+use Rattle.getting_through.proofs.Tries.{IsTryOf}
+use Rattle.getting_through.proofs.LastCalls.{known}
+use Rattle.getting_through.proofs.LastTry.{last_of}
+use Rattle.getting_through.proofs.Nobody.{some_same}
+use Rattle.getting_through.proofs.RetriesUsed.{spent}
+use Rattle.getting_through.proofs.Spending.{AreLeft, IsSpending}
+use Rattle.getting_through.proofs.Waiting.{reads_the_seen}
+use Rattle.getting_through.proofs.QuietWorlds.{call_listed}
 use Rattle.getting_through.specs.GettingThrough.{IsAlone}
 use Rattle.getting_through.proofs.Entered.{course-append}
 use Rattle.waiting_lock_calls.specs.Retried.{asks, IsRival, HasBecome, Won, Dropped, Failed, WaitsOn, RetriesAreTold, FreeCallsWin}

@@ -20,27 +20,28 @@ use Rattle.protocol_model.specs.World.{Opening, in_world, World, left, WorldEven
 use Rattle.protocol_model.specs.Refusals.{HasOpenCall}
 use Rattle.protocol_model.specs.Leftovers.{IsQuiet, world}
 use Rattle.protocol_model.proofs.Courses.{run-append}
-use Rattle.moves.proofs.Indices.{both}
-use Rattle.moves.proofs.Invariants.{IsUp as Runs}
-use Rattle.creations.specs.NodeNames.{NamedOpening, opening_of}
-use Rattle.creations.specs.NamedWorld.{NamedWorld, NamedEvent, has_started, plain_events, happens_named, run_named, opening_named, after_events}
-use Rattle.creations.specs.Restarts.{IsUp}
-use Rattle.creations.specs.NamedLeftovers.{NamesAreQuiet, NamesAreSettled}
-use Rattle.creations.specs.Lifted.{events_played}
-use Rattle.creations.proofs.Alike.{Alike, same_refusal, run_alike}
-use Rattle.creations.proofs.Always.{happens_keeps}
-use Rattle.creations.proofs.Apart.{IsStaying}
-use Rattle.creations.proofs.LeftOfNames
-use Rattle.creations.proofs.NamedRuns.{happens-plain, named_runs_are_runs}
-use Rattle.creations.proofs.Standing.{Sound, least_started}
-use Rattle.headline.proofs.Unanswered.{waits_open}
-use Rattle.leftovers.proofs.Calls.{holder_of_call}
-use Rattle.no_dead_end.specs.Answering.{NameCallsAreAnswered}
-use Rattle.no_dead_end.specs.NamedNoDeadEnd.{AlwaysNamed}
-use Rattle.no_dead_end.specs.Weights.{sum_below, when}
-use Rattle.no_dead_end.specs.Work.{running}
-use Rattle.no_dead_end.proofs.QuietWorlds.{call_listed}
-use Rattle.no_dead_end.proofs.Sums.{sum-le}
+use Rattle.getting_through.proofs.Indices.{both}
+use Rattle.getting_through.proofs.Invariants.{IsUp as Runs}
+use Rattle.getting_through.specs.NodeNames.{NamedOpening, opening_of}
+use Rattle.getting_through.specs.NamedWorld.{NamedWorld, NamedEvent, has_started, plain_events, happens_named, run_named, opening_named, after_events}
+use Rattle.getting_through.specs.Restarts.{IsUp}
+use Rattle.getting_through.specs.NamedLeftovers.{NamesAreQuiet, NamesAreSettled}
+use Rattle.getting_through.specs.Lifted.{events_played}
+use Rattle.getting_through.proofs.Alike.{Alike, same_refusal, run_alike}
+use Rattle.getting_through.proofs.Always.{happens_keeps}
+use Rattle.getting_through.proofs.Apart.{IsStaying}
+use Rattle.getting_through.proofs.LeftOfNames
+use Rattle.getting_through.proofs.NamedRuns.{happens-plain, named_runs_are_runs}
+use Rattle.getting_through.proofs.Standing.{Sound, least_started}
+use Rattle.getting_through.proofs.HeadlineUnanswered.{waits_open}
+use Rattle.getting_through.proofs.Calls.{holder_of_call}
+use Rattle.getting_through.specs.Answering.{NameCallsAreAnswered}
+use Rattle.getting_through.specs.NamedNoDeadEnd.{AlwaysNamed}
+use Rattle.getting_through.specs.Weights.{sum_below, when}
+use Rattle.getting_through.specs.Work.{running}
+use Rattle.getting_through.proofs.NamedQuiet.{quiet_names_rest}
+use Rattle.getting_through.proofs.QuietWorlds.{call_listed}
+use Rattle.getting_through.proofs.Sums.{sum-le}
 use Rattle.getting_through.specs.GettingThrough.{is_delivery_or_retry}
 use Rattle.getting_through.specs.NamedGettingFree.{is_named_delivery_or_retry, NamesLeadOn as NamesGetFree}
 use Rattle.getting_through.proofs.NamedStorms
@@ -306,6 +307,7 @@ module _ (o : NamedOpening) (es : List NamedEvent) where
               listed = there;
               its_holder = holder_of_call p (w.world.node a).calls W.0 found;
               its_number = W.2;
+              waits = (quiet_names_rest o es t.quiet).calls a W.0 up there;
               held_up = held t.quiet a up W.0 (all a (ltb-true a (O o).bound (and_parts _ ((O o).nodes a) up.inside).0) up.started
                   (subst (λ (v : World). Runs (O o) v a) u_is (up.inside, LeftOfNames.left_same o es a ∙ up.stays)) W.0
                   (subst (λ (v : Node). Contains v.calls W.0) (sym (same t.quiet a up)) there));

@@ -18,14 +18,14 @@ use Rattle.protocol_model.specs.Answers.{answer_to}
 use Rattle.protocol_model.specs.QuietCalls.{IsFree}
 use Rattle.protocol_model.specs.Leftovers.{IsQuiet, world}
 use Rattle.protocol_model.proofs.Courses.{course_answers}
-use Rattle.creations.specs.NodeNames.{NamedOpening, opening_of}
-use Rattle.creations.specs.NamedWorld.{NamedWorld, NamedEvent, NamedRefusal, Plain, has_started, plain_refusal, plain, plain_events, happens_named, run_named, as_events}
-use Rattle.creations.specs.NamedQuietCalls.{is_named_delivery}
-use Rattle.creations.proofs.Alike.{AreWithin, same_refusal, run_alike}
-use Rattle.creations.proofs.LeftOfNames
-use Rattle.creations.proofs.QuietNames.{plain_deliveries}
-use Rattle.creations.proofs.Standing.{least_started, unrefused}
-use Rattle.no_dead_end.specs.NamedNoDeadEnd.{AlwaysNamed}
+use Rattle.getting_through.specs.NodeNames.{NamedOpening, opening_of}
+use Rattle.getting_through.specs.NamedWorld.{NamedWorld, NamedEvent, NamedRefusal, Plain, has_started, plain_refusal, plain, plain_events, happens_named, run_named, as_events}
+use Rattle.getting_through.specs.NamedQuietCalls.{is_named_delivery}
+use Rattle.getting_through.proofs.Alike.{AreWithin, same_refusal, run_alike}
+use Rattle.getting_through.proofs.LeftOfNames
+use Rattle.getting_through.proofs.QuietNames.{plain_deliveries}
+use Rattle.getting_through.proofs.Standing.{least_started, unrefused}
+use Rattle.getting_through.specs.NamedNoDeadEnd.{AlwaysNamed}
 use Rattle.getting_through.specs.GettingThrough.{IsAlone}
 use Rattle.getting_through.specs.NamedGettingFree.{is_named_delivery_or_retry}
 use Rattle.getting_through.proofs.NamedStorms

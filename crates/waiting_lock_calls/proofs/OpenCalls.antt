@@ -11,29 +11,29 @@ use Rattle.protocol_model.specs.Client.{in_phase, is_spent}
 use Rattle.protocol_model.specs.Event.{Event, Refusal}
 use Rattle.protocol_model.specs.World.{Opening, in_world, World, left, WorldEvent, At, Deliver, opening_world, refusal, accepted, happens}
 use Rattle.protocol_model.specs.Leftovers.{world}
-use Rattle.moves.proofs.Invariants.{IsUp}
-use Rattle.moves.proofs.Rules
-use Rattle.moves.proofs.Rules.{Rule, May, Ordered, is_ordered}
+use Rattle.getting_through.proofs.Invariants.{IsUp}
+use Rattle.getting_through.proofs.Rules
+use Rattle.getting_through.proofs.Rules.{Rule, May, Ordered, is_ordered}
 use Rattle.walk.proofs.Calls.{AllAfter, all_after, ordered_parts, is_ordered-drop_call}
 use Rattle.walk.proofs.ChainKinds.{Hearing, suits}
 use Rattle.walk.proofs.Walk.{OrderedWalk}
-use Rattle.headline.proofs.Tied.{run-push}
-use Rattle.leftovers.proofs.Calls.{call_of-drop, holder_of_call, home_of_call}
-use Rattle.leftovers.proofs.Families.{whole}
-use Rattle.leftovers.proofs.RoundNumbers.{round_count}
-use Rattle.leftovers.proofs.Clients.{Numbers, call_at}
-use Rattle.leftovers.proofs.Grounds.{Base, lock_state}
-use Rattle.leftovers.proofs.Ids.{is_process_same, is_process_self}
-use Rattle.leftovers.proofs.Phases.{StepOk, Puts, Drops, step_of}
-use Rattle.leftovers.proofs.Told.{chain_of}
-use Rattle.lock_answers.proofs.Behind.{Known, walk_of, plain_hears}
-use Rattle.lock_answers.proofs.CallSteps.{AllCalls, found_at, calls_kept}
-use Rattle.lock_answers.proofs.CallTurns.{some_unless, anew_in, anew}
-use Rattle.lock_answers.proofs.EventTurns.{AgainTurn, again_turn}
-use Rattle.lock_answers.proofs.Verdicts.{kept_in}
-use Rattle.no_dead_end.specs.Weights.{sum_below, when}
-use Rattle.no_dead_end.specs.Work.{running}
-use Rattle.no_dead_end.proofs.Sums.{sum-le}
+use Rattle.getting_through.proofs.Tied.{run-push}
+use Rattle.getting_through.proofs.Calls.{call_of-drop, holder_of_call, home_of_call}
+use Rattle.getting_through.proofs.Families.{whole}
+use Rattle.getting_through.proofs.RoundNumbers.{round_count}
+use Rattle.getting_through.proofs.Clients.{Numbers, call_at}
+use Rattle.getting_through.proofs.Grounds.{Base, lock_state}
+use Rattle.getting_through.proofs.Ids.{is_process_same, is_process_self}
+use Rattle.getting_through.proofs.Phases.{StepOk, Puts, Drops, step_of}
+use Rattle.getting_through.proofs.Told.{chain_of}
+use Rattle.getting_through.proofs.Behind.{Known, walk_of, plain_hears}
+use Rattle.getting_through.proofs.CallSteps.{AllCalls, found_at, calls_kept}
+use Rattle.getting_through.proofs.CallTurns.{some_unless, anew_in, anew}
+use Rattle.getting_through.proofs.EventTurns.{AgainTurn, again_turn}
+use Rattle.getting_through.proofs.Verdicts.{kept_in}
+use Rattle.getting_through.specs.Weights.{sum_below, when}
+use Rattle.getting_through.specs.Work.{running}
+use Rattle.getting_through.proofs.Sums.{sum-le}
 use Rattle.getting_through.specs.GettingThrough.{is_delivery_or_retry}
 use Rattle.waiting_lock_calls.proofs.Tried.{along}
 

@@ -15,24 +15,24 @@ use Rattle.protocol_model.specs.Node.{Node, LockPhase, LockCall}
 use Rattle.protocol_model.specs.Turn.{begun, send, send_all, sent_to, with_locks, keep_call}
 use Rattle.protocol_model.specs.Client.{in_phase, is_spent}
 use Rattle.protocol_model.specs.World.{Opening, in_world, World, left}
-use Rattle.moves.proofs.Indices.{both, not_true}
-use Rattle.moves.proofs.Invariants.{Each, IsUp}
-use Rattle.moves.proofs.Rules
-use Rattle.moves.proofs.Rules.{Rule, May, Taken}
-use Rattle.moves.proofs.SendTests.{pass_sent}
+use Rattle.getting_through.proofs.Indices.{both, not_true}
+use Rattle.getting_through.proofs.Invariants.{Each, IsUp}
+use Rattle.getting_through.proofs.Rules
+use Rattle.getting_through.proofs.Rules.{Rule, May, Taken}
+use Rattle.getting_through.proofs.SendTests.{pass_sent}
 use Rattle.walk.proofs.ChainKinds.{Hearing, suits}
 use Rattle.walk.proofs.Orders.{effect-node}
-use Rattle.leftovers.proofs.Base.{is_leave, effect-turn, after_turn, popped, popped_queue, each-one, each-all, each-popped, each-posted}
-use Rattle.leftovers.proofs.Calls.{home_of_call}
-use Rattle.leftovers.proofs.Grounds.{Base}
-use Rattle.leftovers.proofs.Ids.{is_process_same}
-use Rattle.leftovers.proofs.GrantLists.{all_grants, all_filter, all_grant, all_give_back}
-use Rattle.leftovers.proofs.Ongoing.{asked_answer, asked_down}
-use Rattle.leftovers.proofs.Parts.{locks_by, parts}
-use Rattle.leftovers.proofs.Phases.{StepOk, Puts, Drops, step_of}
-use Rattle.leftovers.proofs.Requests.{is_apart, sends_apart}
-use Rattle.leftovers.proofs.Rounds.{answer_boss}
-use Rattle.lock_answers.proofs.CallSteps.{AllCalls, found_at, calls_kept}
+use Rattle.getting_through.proofs.Base.{is_leave, effect-turn, after_turn, popped, popped_queue, each-one, each-all, each-popped, each-posted}
+use Rattle.getting_through.proofs.Calls.{home_of_call}
+use Rattle.getting_through.proofs.Grounds.{Base}
+use Rattle.getting_through.proofs.Ids.{is_process_same}
+use Rattle.getting_through.proofs.GrantLists.{all_grants, all_filter, all_grant, all_give_back}
+use Rattle.getting_through.proofs.Ongoing.{asked_answer, asked_down}
+use Rattle.getting_through.proofs.Parts.{locks_by, parts}
+use Rattle.getting_through.proofs.Phases.{StepOk, Puts, Drops, step_of}
+use Rattle.getting_through.proofs.Requests.{is_apart, sends_apart}
+use Rattle.getting_through.proofs.Rounds.{answer_boss}
+use Rattle.getting_through.proofs.CallSteps.{AllCalls, found_at, calls_kept}
 use Rattle.waiting_lock_calls.specs.Retried.{asks}
 use Rattle.waiting_lock_calls.specs.HeldUp.{boss_of}
 use Rattle.waiting_lock_calls.proofs.Unrivalled.{is_clear, is_heard, heard_suits}

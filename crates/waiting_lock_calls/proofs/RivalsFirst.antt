@@ -23,22 +23,22 @@ use Rattle.protocol_model.specs.Event.{Event}
 use Rattle.protocol_model.specs.World.{Opening, World, At, turn_of, refusal, accepted}
 use Rattle.protocol_model.specs.Leftovers.{IsQuiet}
 use Rattle.protocol_model.proofs.Ids.{is_id_self}
-use Rattle.moves.proofs.Indices.{both, not_true, not_false, some_of, greatest_in}
-use Rattle.moves.proofs.Invariants.{Each, IsUp}
-use Rattle.moves.proofs.Rules.{is_ordered}
-use Rattle.moves.proofs.Sends.{sent_to-append, sent_to-one}
+use Rattle.getting_through.proofs.Indices.{both, not_true, not_false, some_of, greatest_in}
+use Rattle.getting_through.proofs.Invariants.{Each, IsUp}
+use Rattle.getting_through.proofs.Rules.{is_ordered}
+use Rattle.getting_through.proofs.Sends.{sent_to-append, sent_to-one}
 use Rattle.walk.proofs.Calls.{AllAfter, all_after, ordered_parts}
-use Rattle.leftovers.proofs.Base.{each-map, each-posted, posted-here}
-use Rattle.leftovers.proofs.Clients.{call_at}
-use Rattle.leftovers.proofs.Families.{Whole}
-use Rattle.leftovers.proofs.GrantLists.{all_grants}
-use Rattle.leftovers.proofs.Ids.{is_process_same}
-use Rattle.leftovers.proofs.Ongoing.{asked_begin}
-use Rattle.leftovers.proofs.Quiet.{calls_wait}
-use Rattle.lock_answers.proofs.CallSteps.{AllCalls}
-use Rattle.lock_answers.proofs.CallTurns.{some_unless, begun_over, anew_in, anew}
-use Rattle.lock_answers.proofs.EventTurns.{AgainTurn, again_turn}
-use Rattle.no_dead_end.proofs.QuietWorlds.{call_listed}
+use Rattle.getting_through.proofs.Base.{each-map, each-posted, posted-here}
+use Rattle.getting_through.proofs.Clients.{call_at}
+use Rattle.getting_through.proofs.Families.{Whole}
+use Rattle.getting_through.proofs.GrantLists.{all_grants}
+use Rattle.getting_through.proofs.Ids.{is_process_same}
+use Rattle.getting_through.proofs.Ongoing.{asked_begin}
+use Rattle.getting_through.proofs.Quiet.{calls_wait}
+use Rattle.getting_through.proofs.CallSteps.{AllCalls}
+use Rattle.getting_through.proofs.CallTurns.{some_unless, begun_over, anew_in, anew}
+use Rattle.getting_through.proofs.EventTurns.{AgainTurn, again_turn}
+use Rattle.getting_through.proofs.QuietWorlds.{call_listed}
 use Rattle.waiting_lock_calls.specs.Retried.{asks, IsRival}
 use Rattle.waiting_lock_calls.specs.HeldUp.{boss_of, comes_before}
 use Rattle.waiting_lock_calls.proofs.Asked.{AsksBoss, Begins, Begun, retry_begun}

@@ -17,31 +17,31 @@ use Rattle.protocol_model.specs.LockAnswers.{tries_of}
 use Rattle.protocol_model.specs.World.{Opening, World, WorldEvent, At, refusal}
 use Rattle.protocol_model.specs.Leftovers.{IsQuiet, world}
 use Rattle.protocol_model.proofs.Ids.{is_id_self}
-use Rattle.leftovers.proofs.Tries.{IsTryOf}
-use Rattle.lock_answers.proofs.Nobody.{some_same}
-use Rattle.moves.proofs.Indices.{both, is_empty_from}
-use Rattle.moves.proofs.Invariants.{Each, IsUp}
-use Rattle.leftovers.proofs.Base.{not_both}
-use Rattle.leftovers.proofs.Clients.{call_at, lives, IsLive, live_parts, caller_lives}
-use Rattle.leftovers.proofs.Families.{whole}
-use Rattle.leftovers.proofs.Grounds.{lock_state}
-use Rattle.leftovers.proofs.Ids.{is_process_same}
-use Rattle.leftovers.proofs.Mail
-use Rattle.leftovers.proofs.Mail.{ask_of, echo_of}
-use Rattle.leftovers.proofs.Ongoing.{is_deleting}
-use Rattle.leftovers.proofs.Rest.{RoundRests, PhaseRests}
-use Rattle.leftovers.proofs.RoundFacts.{is_before}
-use Rattle.leftovers.proofs.RoundNumbers.{round_count}
-use Rattle.leftovers.proofs.Sessions
-use Rattle.leftovers.proofs.Sessions.{Ask, Takes, Backs, Acks, Frees, Echo, View, Owed, view, view_of, view_in, settled, settled_le, ends_take, Live}
-use Rattle.lock_answers.proofs.BadMarks.{is_bad}
-use Rattle.lock_answers.proofs.Behind.{stands}
-use Rattle.lock_answers.proofs.Denials.{Denies}
-use Rattle.lock_answers.proofs.LastCalls.{known}
-use Rattle.lock_answers.proofs.LastTry.{last_of}
-use Rattle.lock_answers.proofs.ReasonEvents.{ReasonsAt, reasons_next}
-use Rattle.lock_answers.proofs.ReasonSteps.{Reasons}
-use Rattle.lock_answers.proofs.Reasons.{MarksIn}
+use Rattle.getting_through.proofs.Tries.{IsTryOf}
+use Rattle.getting_through.proofs.Nobody.{some_same}
+use Rattle.getting_through.proofs.Indices.{both, is_empty_from}
+use Rattle.getting_through.proofs.Invariants.{Each, IsUp}
+use Rattle.getting_through.proofs.Base.{not_both}
+use Rattle.getting_through.proofs.Clients.{call_at, lives, IsLive, live_parts, caller_lives}
+use Rattle.getting_through.proofs.Families.{whole}
+use Rattle.getting_through.proofs.Grounds.{lock_state}
+use Rattle.getting_through.proofs.Ids.{is_process_same}
+use Rattle.getting_through.proofs.Mail
+use Rattle.getting_through.proofs.Mail.{ask_of, echo_of}
+use Rattle.getting_through.proofs.Ongoing.{is_deleting}
+use Rattle.getting_through.proofs.Rest.{RoundRests, PhaseRests}
+use Rattle.getting_through.proofs.RoundFacts.{is_before}
+use Rattle.getting_through.proofs.RoundNumbers.{round_count}
+use Rattle.getting_through.proofs.Sessions
+use Rattle.getting_through.proofs.Sessions.{Ask, Takes, Backs, Acks, Frees, Echo, View, Owed, view, view_of, view_in, settled, settled_le, ends_take, Live}
+use Rattle.getting_through.proofs.BadMarks.{is_bad}
+use Rattle.getting_through.proofs.Behind.{stands}
+use Rattle.getting_through.proofs.Denials.{Denies}
+use Rattle.getting_through.proofs.LastCalls.{known}
+use Rattle.getting_through.proofs.LastTry.{last_of}
+use Rattle.getting_through.proofs.ReasonEvents.{ReasonsAt, reasons_next}
+use Rattle.getting_through.proofs.ReasonSteps.{Reasons}
+use Rattle.getting_through.proofs.Reasons.{MarksIn}
 use Rattle.waiting_lock_calls.specs.Retried.{asks}
 use Rattle.waiting_lock_calls.proofs.Tried.{AreTries, up, home}
 use Rattle.waiting_lock_calls.proofs.Front.{is_own, none_own}

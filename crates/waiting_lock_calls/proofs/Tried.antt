@@ -14,24 +14,24 @@ use Rattle.protocol_model.specs.LockAnswers.{Tries, watched, next_try, tries_by,
 use Rattle.protocol_model.specs.World.{Opening, World, left, WorldEvent, At, Deliver, opening_world, refusal, accepted}
 use Rattle.protocol_model.specs.Fit.{is_delivery}
 use Rattle.protocol_model.specs.Leftovers.{IsQuiet, world}
-use Rattle.moves.proofs.Indices.{both}
-use Rattle.moves.proofs.Invariants.{IsUp}
+use Rattle.getting_through.proofs.Indices.{both}
+use Rattle.getting_through.proofs.Invariants.{IsUp}
 use Rattle.walk.proofs.Calls.{all_open}
 use Rattle.walk.proofs.Runs.{happens-accepted}
-use Rattle.headline.proofs.Tied.{run-push}
-use Rattle.leftovers.proofs.Events.{accepted_of}
-use Rattle.leftovers.proofs.Calls.{home_of_call}
-use Rattle.leftovers.proofs.Clients.{call_at}
-use Rattle.leftovers.proofs.Families.{whole}
-use Rattle.leftovers.proofs.Ongoing.{is_deleting}
-use Rattle.leftovers.proofs.Tries.{IsTryOf}
-use Rattle.lock_answers.proofs.Behind.{is_plain, plain_tries}
-use Rattle.lock_answers.proofs.LastCalls.{known}
-use Rattle.lock_answers.proofs.LastTry.{last_of, tries_more, tries_behind}
-use Rattle.lock_answers.proofs.Nobody.{some_same}
-use Rattle.lock_answers.proofs.RetriesUsed.{spent}
-use Rattle.lock_answers.proofs.Spending.{AreLeft, IsSpending}
-use Rattle.no_dead_end.proofs.QuietWorlds.{found_call, calls}
+use Rattle.getting_through.proofs.Tied.{run-push}
+use Rattle.walk.proofs.Events.{accepted_of}
+use Rattle.getting_through.proofs.Calls.{home_of_call}
+use Rattle.getting_through.proofs.Clients.{call_at}
+use Rattle.getting_through.proofs.Families.{whole}
+use Rattle.getting_through.proofs.Ongoing.{is_deleting}
+use Rattle.getting_through.proofs.Tries.{IsTryOf}
+use Rattle.getting_through.proofs.Behind.{is_plain, plain_tries}
+use Rattle.getting_through.proofs.LastCalls.{known}
+use Rattle.getting_through.proofs.LastTry.{last_of, tries_more, tries_behind}
+use Rattle.getting_through.proofs.Nobody.{some_same}
+use Rattle.getting_through.proofs.RetriesUsed.{spent}
+use Rattle.getting_through.proofs.Spending.{AreLeft, IsSpending}
+use Rattle.getting_through.proofs.QuietWorlds.{found_call, calls}
 use Rattle.waiting_lock_calls.specs.Retried.{asks}
 
 -- what each event of some kind keeps holds behind all of them

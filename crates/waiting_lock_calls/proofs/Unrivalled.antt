@@ -17,33 +17,33 @@ use Rattle.protocol_model.specs.Event.{Event, Refusal}
 use Rattle.protocol_model.specs.World.{Opening, in_world, World, left, WorldEvent, At, Deliver, turn_of, refusal, accepted, happens}
 use Rattle.protocol_model.specs.Fit.{is_delivery}
 use Rattle.protocol_model.specs.Leftovers.{IsQuiet}
-use Rattle.moves.proofs.Indices.{both, not_true}
-use Rattle.moves.proofs.Invariants.{Each, IsUp}
-use Rattle.moves.proofs.Rules
-use Rattle.moves.proofs.Rules.{Rule, May, is_quiet}
-use Rattle.moves.proofs.SendTests.{pass_sent}
+use Rattle.getting_through.proofs.Indices.{both, not_true}
+use Rattle.getting_through.proofs.Invariants.{Each, IsUp}
+use Rattle.getting_through.proofs.Rules
+use Rattle.getting_through.proofs.Rules.{Rule, May, is_quiet}
+use Rattle.getting_through.proofs.SendTests.{pass_sent}
 use Rattle.walk.proofs.ChainKinds.{Hearing, suits}
 use Rattle.walk.proofs.Walk.{OrderedWalk}
 use Rattle.walk.proofs.Orders.{effect-node}
-use Rattle.lock_sessions.proofs.Locking.{IsNamed}
-use Rattle.leftovers.proofs.Base.{is_leave, effect-turn, after_turn, popped, each-one, each-all, each-map, each-popped, each-posted}
-use Rattle.leftovers.proofs.Calls.{home_of_call}
-use Rattle.leftovers.proofs.Clients.{Numbers, call_at}
-use Rattle.leftovers.proofs.Families.{Whole}
-use Rattle.leftovers.proofs.Grounds.{Base}
-use Rattle.leftovers.proofs.GrantLists.{all_grants, all_filter, all_grant, all_give_back}
-use Rattle.leftovers.proofs.Ongoing.{asked_answer, asked_down, asked_begin}
-use Rattle.leftovers.proofs.Parts.{locks_by, parts}
-use Rattle.leftovers.proofs.Phases.{StepOk, Puts, Drops, step_of}
-use Rattle.leftovers.proofs.Quiet.{calls_wait}
-use Rattle.leftovers.proofs.Requests.{is_apart, sends_apart}
-use Rattle.leftovers.proofs.Told.{chain_of}
-use Rattle.lock_answers.proofs.Behind.{Known, walk_of, plain_hears}
-use Rattle.lock_answers.proofs.CallSteps.{AllCalls, found_at, calls_kept}
-use Rattle.lock_answers.proofs.CallTurns.{some_unless, begun_over, anew_in, anew}
-use Rattle.lock_answers.proofs.EventTurns.{AgainTurn, again_turn}
-use Rattle.lock_answers.proofs.Verdicts.{kept_in}
-use Rattle.no_dead_end.proofs.QuietWorlds.{call_listed}
+use Rattle.getting_through.proofs.Locking.{IsNamed}
+use Rattle.getting_through.proofs.Base.{is_leave, effect-turn, after_turn, popped, each-one, each-all, each-map, each-popped, each-posted}
+use Rattle.getting_through.proofs.Calls.{home_of_call}
+use Rattle.getting_through.proofs.Clients.{Numbers, call_at}
+use Rattle.getting_through.proofs.Families.{Whole}
+use Rattle.getting_through.proofs.Grounds.{Base}
+use Rattle.getting_through.proofs.GrantLists.{all_grants, all_filter, all_grant, all_give_back}
+use Rattle.getting_through.proofs.Ongoing.{asked_answer, asked_down, asked_begin}
+use Rattle.getting_through.proofs.Parts.{locks_by, parts}
+use Rattle.getting_through.proofs.Phases.{StepOk, Puts, Drops, step_of}
+use Rattle.getting_through.proofs.Quiet.{calls_wait}
+use Rattle.getting_through.proofs.Requests.{is_apart, sends_apart}
+use Rattle.getting_through.proofs.Told.{chain_of}
+use Rattle.getting_through.proofs.Behind.{Known, walk_of, plain_hears}
+use Rattle.getting_through.proofs.CallSteps.{AllCalls, found_at, calls_kept}
+use Rattle.getting_through.proofs.CallTurns.{some_unless, begun_over, anew_in, anew}
+use Rattle.getting_through.proofs.EventTurns.{AgainTurn, again_turn}
+use Rattle.getting_through.proofs.Verdicts.{kept_in}
+use Rattle.getting_through.proofs.QuietWorlds.{call_listed}
 use Rattle.waiting_lock_calls.specs.Retried.{asks, IsRival}
 use Rattle.waiting_lock_calls.proofs.Asked.{Asks, each_apart, Begins, begins_asks, Begun, retry_begun}
 

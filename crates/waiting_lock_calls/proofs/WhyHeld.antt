@@ -16,16 +16,16 @@ use Rattle.protocol_model.specs.QuietCalls.{IsFree}
 use Rattle.protocol_model.specs.World.{Opening, World, WorldEvent}
 use Rattle.protocol_model.specs.Leftovers.{IsQuiet, world}
 use Rattle.protocol_model.proofs.Meanings.{grants_the_free}
-use Rattle.moves.proofs.Indices.{both, not_true, some_of, empty_at}
-use Rattle.moves.proofs.Invariants.{IsUp}
+use Rattle.getting_through.proofs.Indices.{both, not_true, some_of, empty_at}
+use Rattle.getting_through.proofs.Invariants.{IsUp}
 use Rattle.walk.proofs.Calls.{all_open}
-use Rattle.lock_sessions.proofs.LockTables.{is_global}
-use Rattle.lock_sessions.proofs.Locking.{IsClients, call_of-client}
-use Rattle.leftovers.proofs.Families.{whole}
-use Rattle.leftovers.proofs.Ids.{is_id_same}
-use Rattle.leftovers.proofs.LocksTold.{locks_are_as_told, no_empty_grants}
-use Rattle.leftovers.proofs.Near.{target_member}
-use Rattle.no_dead_end.proofs.QuietWorlds.{found_call}
+use Rattle.getting_through.proofs.LockTables.{is_global}
+use Rattle.getting_through.proofs.Locking.{IsClients, call_of-client}
+use Rattle.getting_through.proofs.Families.{whole}
+use Rattle.getting_through.proofs.Ids.{is_id_same}
+use Rattle.getting_through.proofs.LocksTold.{locks_are_as_told, no_empty_grants}
+use Rattle.getting_through.proofs.Near.{target_member}
+use Rattle.getting_through.proofs.QuietWorlds.{found_call}
 use Rattle.getting_through.proofs.Groups.{below as member_below, member_runs}
 use Rattle.waiting_lock_calls.specs.Retried.{asks, IsRival}
 use Rattle.waiting_lock_calls.specs.HeldUp.{boss_of, comes_before, HeldUp, Taken, Full, Behind}

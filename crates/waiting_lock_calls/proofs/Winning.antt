@@ -26,36 +26,36 @@ use Rattle.protocol_model.specs.QuietCalls.{IsFree}
 use Rattle.protocol_model.specs.Refusals.{HasOpenCall}
 use Rattle.protocol_model.specs.Leftovers.{IsQuiet, world}
 use Rattle.protocol_model.proofs.Finding.{any_found}
-use Rattle.moves.proofs.Indices.{both, is_empty_from, some_of}
-use Rattle.moves.proofs.Invariants.{IsUp}
+use Rattle.getting_through.proofs.Indices.{both, is_empty_from, some_of}
+use Rattle.getting_through.proofs.Invariants.{IsUp}
 use Rattle.walk.proofs.Events.{accepted_of}
 use Rattle.walk.proofs.Runs.{happens-accepted}
-use Rattle.fitting.proofs.Unanswered.{kept_in}
-use Rattle.headline.specs.Clauses.{events}
-use Rattle.headline.proofs.Asked.{all_from}
-use Rattle.headline.proofs.Tied.{run-push}
-use Rattle.headline.proofs.Unanswered.{open_waits}
-use Rattle.leftovers.proofs.Calls.{home_of_call}
-use Rattle.leftovers.proofs.Clients.{call_at, lives, IsLive, live_parts, caller_lives}
-use Rattle.leftovers.proofs.Families.{whole}
-use Rattle.leftovers.proofs.Grounds.{lock_state}
-use Rattle.leftovers.proofs.GrantLists.{all_grants}
-use Rattle.leftovers.proofs.Ids.{is_process_same, is_process_self, is_id_same}
-use Rattle.leftovers.proofs.LocksTold.{no_empty_grants}
-use Rattle.leftovers.proofs.Mail
-use Rattle.leftovers.proofs.RoundNumbers.{round_count, round_count_from, round_count_after, next_round_count, is_won_by_round, is_true_to_call, is_tried}
-use Rattle.leftovers.proofs.SessionMoves.{take_front}
-use Rattle.leftovers.proofs.Sessions
-use Rattle.leftovers.proofs.Sessions.{Ask, Takes, Echo, View, Owed, view, settled, Live}
-use Rattle.leftovers.proofs.Tallies.{numbers_agree}
-use Rattle.leftovers.proofs.Near.{target_member}
-use Rattle.leftovers.proofs.HeadlineClients.{grounds}
-use Rattle.leftovers.proofs.Together.{All}
+use Rattle.getting_through.proofs.Unanswered.{kept_in}
+use Rattle.getting_through.specs.Clauses.{events}
+use Rattle.getting_through.proofs.Asked.{all_from}
+use Rattle.getting_through.proofs.Tied.{run-push}
+use Rattle.getting_through.proofs.HeadlineUnanswered.{open_waits}
+use Rattle.getting_through.proofs.Calls.{home_of_call}
+use Rattle.getting_through.proofs.Clients.{call_at, lives, IsLive, live_parts, caller_lives}
+use Rattle.getting_through.proofs.Families.{whole}
+use Rattle.getting_through.proofs.Grounds.{lock_state}
+use Rattle.getting_through.proofs.GrantLists.{all_grants}
+use Rattle.getting_through.proofs.Ids.{is_process_same, is_process_self, is_id_same}
+use Rattle.getting_through.proofs.LocksTold.{no_empty_grants}
+use Rattle.getting_through.proofs.Mail
+use Rattle.getting_through.proofs.RoundNumbers.{round_count, round_count_from, round_count_after, next_round_count, is_won_by_round, is_true_to_call, is_tried}
+use Rattle.getting_through.proofs.SessionMoves.{take_front}
+use Rattle.getting_through.proofs.Sessions
+use Rattle.getting_through.proofs.Sessions.{Ask, Takes, Echo, View, Owed, view, settled, Live}
+use Rattle.getting_through.proofs.Tallies.{numbers_agree}
+use Rattle.getting_through.proofs.Near.{target_member}
+use Rattle.getting_through.proofs.HeadlineClients.{grounds}
+use Rattle.getting_through.proofs.Together.{All}
 use Rattle.getting_through.proofs.Groups.{member_runs}
-use Rattle.lock_answers.proofs.Behind.{plain_tries}
-use Rattle.lock_answers.proofs.LastTry.{tries_more, tries_behind}
-use Rattle.lock_answers.proofs.Nobody.{some_same}
-use Rattle.lock_answers.proofs.Pushed.{events_push}
+use Rattle.getting_through.proofs.Behind.{plain_tries}
+use Rattle.getting_through.proofs.LastTry.{tries_more, tries_behind}
+use Rattle.getting_through.proofs.Nobody.{some_same}
+use Rattle.getting_through.proofs.Pushed.{events_push}
 use Rattle.waiting_lock_calls.specs.Retried.{asks}
 use Rattle.waiting_lock_calls.proofs.Tried.{behind, AreTries, first, first_met, found, home, up}
 use Rattle.waiting_lock_calls.proofs.Unrivalled.{is_clear}

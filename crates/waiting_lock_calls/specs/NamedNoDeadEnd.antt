@@ -7,12 +7,12 @@ use Rattle.registry_model.specs.Process.{Process}
 use Rattle.protocol_model.specs.Watch.{is_dead}
 use Rattle.protocol_model.specs.Node.{Current}
 use Rattle.protocol_model.specs.Refusals.{HasOpenCall}
-use Rattle.creations.specs.NodeNames.{NamedOpening, opening_of}
-use Rattle.creations.specs.NamedWorld.{NamedWorld, NamedEvent, run_named, as_events}
-use Rattle.creations.specs.Restarts.{IsUp}
-use Rattle.creations.specs.NamedLeftovers.{NamesAreSettled}
-use Rattle.creations.specs.Lifted.{events_played}
-use Rattle.no_dead_end.specs.Answering.{NameCallsAreAnswered}
+use Rattle.getting_through.specs.NodeNames.{NamedOpening, opening_of}
+use Rattle.getting_through.specs.NamedWorld.{NamedWorld, NamedEvent, run_named, as_events}
+use Rattle.getting_through.specs.Restarts.{IsUp}
+use Rattle.getting_through.specs.NamedLeftovers.{NamesAreSettled}
+use Rattle.getting_through.specs.Lifted.{events_played}
+use Rattle.getting_through.specs.Answering.{NameCallsAreAnswered}
 use Rattle.getting_through.specs.NamedGettingFree.{is_named_delivery_or_retry}
 use Rattle.waiting_lock_calls.specs.NoDeadEnd.{IsHeldUpAt}
 

@@ -13,10 +13,10 @@ use Rattle.protocol_model.specs.Event.{Event}
 use Rattle.protocol_model.specs.Course.{Played, answers_of, course}
 use Rattle.protocol_model.specs.Answers.{answer_to}
 use Rattle.protocol_model.specs.QuietCalls.{IsFree}
-use Rattle.creations.specs.NodeNames.{NamedOpening, opening_of}
-use Rattle.creations.specs.NamedWorld.{NamedWorld, NamedEvent, AtNode, named_refusal, run_named, plain_events, as_events}
-use Rattle.creations.specs.NamedLeftovers.{NamesAreQuiet}
-use Rattle.creations.specs.NamedQuietCalls.{is_named_delivery}
+use Rattle.getting_through.specs.NodeNames.{NamedOpening, opening_of}
+use Rattle.getting_through.specs.NamedWorld.{NamedWorld, NamedEvent, AtNode, named_refusal, run_named, plain_events, as_events}
+use Rattle.getting_through.specs.NamedLeftovers.{NamesAreQuiet}
+use Rattle.getting_through.specs.NamedQuietCalls.{is_named_delivery}
 use Rattle.waiting_lock_calls.specs.Retried.{asks, IsRival, HasBecome}
 
 module _ (o : NamedOpening) (es : List NamedEvent) (w : NamedWorld) where

@@ -5,12 +5,12 @@ use Rattle.std.specs.Prelude.{ℕ, true, ◌≡◌, Contains, List, [], ◌++◌
 use Rattle.std.specs.List.{list_all}
 use Rattle.registry_model.specs.Process.{Process}
 use Rattle.protocol_model.specs.Watch.{is_dead}
-use Rattle.protocol_model.specs.Node.{Current, LockCall}
+use Rattle.protocol_model.specs.Node.{Current, LockPhase, LockCall}
 use Rattle.protocol_model.specs.World.{Opening, World, WorldEvent, opening_world, run}
 use Rattle.protocol_model.specs.Course.{course}
 use Rattle.protocol_model.specs.Refusals.{HasOpenCall}
 use Rattle.protocol_model.specs.Leftovers.{Runs, IsSettled}
-use Rattle.no_dead_end.specs.Answering.{NameCallsAreAnswered}
+use Rattle.getting_through.specs.Answering.{NameCallsAreAnswered}
 use Rattle.getting_through.specs.GettingThrough.{is_delivery_or_retry}
 use Rattle.waiting_lock_calls.specs.HeldUp.{HeldUp}
 
@@ -20,6 +20,7 @@ pub record IsHeldUpAt (o : Opening) (es : List WorldEvent) (w : World) (a : ℕ)
   pub listed : Contains (w.node a).calls call
   pub its_holder : call.holder ≡ p
   pub its_number : call.number ≡ number
+  pub waits : call.phase ≡ LockPhase.Waiting
   pub held_up : HeldUp o es w a call
 
 -- Nothing waits but lock calls that are held up

@@ -4,7 +4,7 @@
 
 ghost use Rattle.protocol_model.specs.Leftovers.{Always};
 ghost use Rattle.waiting_lock_calls.specs.Retried.{RetriesAreTold, FreeCallsWin};
-ghost use Rattle.no_dead_end.specs.NamedNoDeadEnd.{AlwaysNamed};
+ghost use Rattle.getting_through.specs.NamedNoDeadEnd.{AlwaysNamed};
 ghost use Rattle.waiting_lock_calls.specs.NoDeadEnd.{NoDeadEnd};
 ghost use Rattle.waiting_lock_calls.specs.NamedRetried.{NamedRetriesAreTold, NamedFreeCallsWin};
 ghost use Rattle.waiting_lock_calls.specs.NamedNoDeadEnd.{NamedNoDeadEnd};

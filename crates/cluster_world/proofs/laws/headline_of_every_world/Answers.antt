@@ -1,4 +1,4 @@
-use Rattle.creations.proofs.Theorem.{agreement}
+use Rattle.getting_through.proofs.Theorem.{agreement}
 use Rattle.world_events.specs.Openings.{opening_with}
 use Rattle.cluster_world.proofs.laws.headline_of_every_world.Goals as goal
 

@@ -1,4 +1,4 @@
-use Rattle.creations.proofs.Nothing.{nothing_is_left}
+use Rattle.getting_through.proofs.Nothing.{nothing_is_left}
 use Rattle.world_events.specs.Openings.{opening_with}
 use Rattle.cluster_world.proofs.laws.nothing_is_left_in_any_world.Goals as goal
 

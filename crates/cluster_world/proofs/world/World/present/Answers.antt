@@ -1,6 +1,6 @@
 use Rattle.std.proofs.Common.{ℕ, ◌≡◌, ◌∙◌, List, Option, Some, None, false, true, ap, subst, sym, refl}
 use Rattle.std.specs.Prelude.{MatchOption, IfSome, is_some}
-use Rattle.creations.specs.NamedWorld.{present_node}
+use Rattle.getting_through.specs.NamedWorld.{present_node}
 use Rattle.term.specs.Nodes.{name_of, text_in}
 use Rattle.term.specs.NodeSets.{set_of, names_in}
 use Rattle.cluster_world.specs.Held.{Held, nodes_of}

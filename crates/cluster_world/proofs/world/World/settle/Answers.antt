@@ -1,5 +1,5 @@
 use Rattle.std.proofs.Common.{List, subst}
-use Rattle.creations.specs.NamedScript.{next_named}
+use Rattle.getting_through.specs.NamedScript.{next_named}
 use Rattle.node_core.specs.declared.Answer.{Answer}
 use Rattle.cluster_world.specs.Settling.{PlaysOn}
 use Rattle.cluster_world.specs.Whole.{IsWhole}

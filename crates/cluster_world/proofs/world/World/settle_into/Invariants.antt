@@ -1,4 +1,4 @@
-use Rattle.creations.specs.NamedScript.{next_named}
+use Rattle.getting_through.specs.NamedScript.{next_named}
 use Rattle.getting_through.specs.NamedNoDeadEnd.{named_work}
 use Rattle.cluster_world.specs.Playing.{Keeps}
 use Rattle.cluster_world.specs.Seen.{names_of, named}
