@@ -30,10 +30,10 @@ class Named:
 
 @dataclass
 class Said:
-    """What the names since the last semicolon have come to."""
+    """What the names since the last semicolon have come to: all functions, and those that the next brackets are of; what types say; the
+    definitions behind the last function; whether a function was named last; and the functions that were named in brackets."""
 
     functions: list = field(default_factory=list)
-    # those that the next brackets are of
     last: list = field(default_factory=list)
     of_types: tuple = None
     definitions: list = field(default_factory=list)
@@ -97,14 +97,17 @@ class Row:
         alike = [it for own in self.below for name in names for it in own.by_name.get(name, [])]
         passed = [it for it in alike if it.owners and (it.name, it.owners[0]) in traits]
         every = [*functions, *passed]
-        return {it for own in every for it in own.clauses}, {it for own in every for it in own.cited}
+        return {name for it in every for name in it.clauses}, {name for it in every for name in it.cited}
 
     def implemented(self, traits, types):
         """What the implementations of these traits for these types say, and cite, or None where there is none."""
         pairs = [(trait, name) for trait in traits for name in types]
         found = [it for own in self.crates for owners, it in own.impls.items() if owners in pairs]
-        passed = {it for own in self.below for f in own.functions if f.owners and f.owners[0] in traits for it in f.clauses}
-        return (passed.union(*(it[0] for it in found)), set().union(*(it[1] for it in found))) if found else None
+        if not found:
+            return None
+        own = [it for crate in self.below for it in crate.functions if it.owners and it.owners[0] in traits]
+        said = {name for it in own for name in it.clauses}
+        return said.union(*(words for words, _ in found)), set().union(*(cited for _, cited in found))
 
     def parts(self, names):
         return {it for name in names for found in self.code.defined(name, self.below) for it in found.parts}
@@ -181,17 +184,17 @@ class Row:
         for each in asked:
             functions = [own for found in each for own in found]
             known = self.promised(functions)[0] | self.parts(said.definitions)
-            if name not in known and not (not it.of_each and self.is_definition_cited(name)):
+            if name not in known and (it.of_each or not self.is_definition_cited(name)):
                 self.fault(name, f"is no clause of `{functions[0].name}`")
 
     def is_definition_cited(self, name):
         return bool(self.code.defined(name, self.below)) and name in self.cited()
 
     def judge_implementation(self, traits, types):
-        self.said = Said(of_types=self.implemented(traits, types), definitions=[])
-        if not self.said.of_types:
+        found = self.implemented(traits, types)
+        if not found:
             self.fault(f"{traits[0]} for {types[0]}", "isn't there")
-            self.said.of_types = (set(), set())
+        self.said = Said(of_types=found or (set(), set()))
 
     def judge(self):
         found = tokens(self.cell)
@@ -206,13 +209,14 @@ class Row:
         return self
 
     def judge_name(self, found, at, it):
-        following = [*found[at + 1 : at + 2]]
+        earlier = [other for other in found[max(0, at - 2) : at] if isinstance(other, Named)]
+        following = [other for other in found[at + 1 : at + 2] if isinstance(other, Named)]
         if it.before == "for" and it.depth == 0:
-            traits = [other.name for other in found[max(0, at - 2) : at] if isinstance(other, Named) and other.behind in ("for", "and")]
-            types = [it.name, *(other.name for other in following if it.behind == "and" and isinstance(other, Named))]
+            traits = [other.name for other in earlier if other.behind in ("for", "and")]
+            types = [it.name, *(other.name for other in following if it.behind == "and")]
             if traits:
                 self.judge_implementation(traits, types)
-        elif it.behind == "for" or it.behind == "and" and following and isinstance(following[0], Named) and following[0].behind == "for":
+        elif it.behind == "for" or it.behind == "and" and any(other.behind == "for" for other in following):
             pass  # a trait: what is judged is the type behind it
         elif it.behind == "of each" and not it.depth:
             self.said = Said()
