@@ -177,6 +177,17 @@ def map_has_each_crate(code):
     fail_for(wrong + [f"{it} stands in a floor, and is no crate" for it in words if "_" in it and it not in code.crates])
 
 
+def types_of_one_name_are_there(code):
+    """The table of docs/GLOSSARY.md that tells types of one name apart."""
+    text = read(f"{code.root}/docs/GLOSSARY.md").partition("\n## Types of one name\n")[2].partition("\n## ")[0]
+    rows = re.findall(r"^\| `(\w+)` \| `(\w+)` \|", text, re.M)
+    if not rows:
+        raise Failure("the table isn't there")
+    wrong = [f"{crate} is no crate" for _, crate in rows if crate not in code.crates]
+    known = [(name, code.crates[crate]) for name, crate in rows if crate in code.crates]
+    fail_for(wrong + [f"{it.name} has no {name}" for name, it in known if name not in it.types and name not in it.definitions])
+
+
 def documents_of(root):
     """The documents, and what users are given beside them."""
     found = [it for it in all_paths(root) if it.endswith(".md") or it.split("/")[0] in ("clients", "examples")]
@@ -202,6 +213,7 @@ def tests(program, root):
     yield test("names_stand_in_the_tree", names_stand_in_the_tree, code)
     yield test("claims_of_readme_are_carried", claims_of_readme_are_carried, code)
     yield test("named_tests_are_there", named_tests_are_there, root, others)
+    yield test("types_of_one_name_are_there", types_of_one_name_are_there, code)
     yield test("central_edits_are_there", central_edits_are_there, root)
     yield test("picture_is_drawn", picture_is_drawn, root)
     yield test("map_has_each_crate", map_has_each_crate, code)
