@@ -31,6 +31,7 @@ PLANTED = [
     ("cluster_world", "| It is so | `World::start`, by `Settles` |", "`Settles` isn't what is cited there"),
     ("cluster_world", "| It is so | `LockSeat` for `World` |", "`LockSeat for World` isn't there"),
     ("cluster_world", "| It is so (`Startled`) | `World::start` |", "`Startled` is nothing there"),
+    ("replay", "| It is so | `replay` (`ok`), by `Replayed` (`outs`) |", "`outs` is nothing there"),
     ("term", "| It is so | `World::play` |", "`World::play` is no function there"),
 ]
 
