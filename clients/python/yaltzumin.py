@@ -173,9 +173,9 @@ class Connection:
         found = self.ask(f"whereis {name}")
         return None if found == "undefined" else found
 
-    def names(self) -> list[str]:
-        """All names in the table of this node, rising."""
-        return self.ask("names").split(" ")[1:]
+    def names(self, prefix: Optional[str] = None) -> list[str]:
+        """All names in the table of this node, rising; or those that begin with a prefix, of 1 to 64 bytes."""
+        return self.ask("names" if prefix is None else f"names {prefix}").split(" ")[1:]
 
     def _yes_or_no(self, line: str) -> bool:
         answer = self.ask(line)
@@ -220,6 +220,10 @@ class Connection:
         words = self.ask("status").split(" ")
         numbers = dict(zip(words[5::2], map(int, words[6::2])))
         return Status(node=words[1], is_joined=words[2] == "joined", members=tuple(words[4].split(",")), **numbers)
+
+    def help(self) -> list[str]:
+        """The words of the lines that the server understands."""
+        return self.ask("help").split(" ")[1:]
 
     def shutdown(self) -> None:
         """Ends the server."""

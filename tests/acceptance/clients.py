@@ -55,6 +55,9 @@ def has_it_all(program, root, *options):
             expect("the join", "joined", other.join("a"))
             expect("the notices", [client.Notice("x", None)], other.notices(lone))
             expect("the names", ["x"], other.names())
+            expect("the names that begin so", (["x"], []), (other.names("x"), other.names("xy")))
+            expect_refused(client, "bad_byte", other.names, "x!")
+            expect("a word of the help", True, "spawn_link" in other.help())
             with one.lock("r", first, "me"):
                 expect("the lock of another", False, other.set_lock("r", lone, "it", retries=0))
             expect("the lock when it is free", True, other.set_lock("r", lone, "it", retries=0))

@@ -1,3 +1,4 @@
+mod Choosing
 mod Heeding
 mod Leaving
 mod LockCalls

@@ -1,18 +1,19 @@
 -- What a line of a console says.
-use Rattle.std.specs.Prelude.{ℕ, Bool, true, false, ◌≡◌, ◌≢◌, ◌||◌, bytes_eq, codes, if◌then◌else◌, List, [], ◌∷◌, Option, Some, None, Result, Ok, Err}
+use Rattle.std.specs.Prelude.{ℕ, Bool, true, false, ◌≡◌, ◌≢◌, ◌⊎◌, ◌||◌, bytes_eq, codes, if◌then◌else◌, List, [], ◌∷◌, Option, Some, None, Result, Ok, Err}
 use Rattle.registry_model.specs.Call.{Register, ReRegister, Unregister, RegisteredNames, NoticesOf, Whereis as LooksUp}
 use Rattle.protocol_model.specs.Event.{Event, Calling, Exiting, Leave as Leaving, Spawn, OnName, LookUp, JoinBy}
 use Rattle.term.specs.declared.rule.Rule.TheVariants as rule
+use Rattle.term.specs.Spelling.{SpellsText, RefusesText}
 use Rattle.command_lines.specs.NodeEventsSeen.{call_of}
 use Rattle.command_lines.specs.declared.faults.LineFault.{LineFault}
-use Rattle.command_lines.specs.declared.faults.LineFault.TheVariants.{BadLine}
+use Rattle.command_lines.specs.declared.faults.LineFault.TheVariants.{BadLine, Text}
 use Rattle.command_lines.specs.Grammar.{ScriptLine as Line, Contact, Name, Pid, Rule, Row, row, row_of, at_node, call_at, pair_for, AsksBy, WordsAsk}
 use Rattle.command_lines.specs.Commands.{unread}
 use Rattle.text_lines.specs.Words.{words}
 use Rattle.console.specs.declared.orders.Order.{Order}
 use Rattle.console.specs.declared.orders.Order.TheVariants.{Call, Whereis, Exit, Leave}
 use Rattle.console.specs.declared.orders.Command.{Command}
-use Rattle.console.specs.declared.orders.Command.TheVariants.{Ask, SpawnLink, Quit, Shutdown, Status}
+use Rattle.console.specs.declared.orders.Command.TheVariants.{Ask, SpawnLink, Quit, Shutdown, Status, Help, NamesFrom}
 
 -- what the node is asked, as the protocol has it
 abbrev pub event_in : Order → Event
@@ -111,6 +112,14 @@ shutdown = codes "shutdown" ∷ []
 abbrev pub status : List (List ℕ)
 status = codes "status" ∷ []
 
+-- the word that asks which lines there are
+abbrev pub help : List (List ℕ)
+help = codes "help" ∷ []
+
+-- the words that ask for the names that begin with this text
+abbrev pub names_with : List ℕ → List (List ℕ)
+names_with text = codes "names" ∷ text ∷ []
+
 -- words are these, of a line that a server has which stays, and no other
 abbrev pub SaysAtStaying : Bool → List (List ℕ) → List (List ℕ) → Type 0
 SaysAtStaying stays these ws = (stays ≡ true) × (ws ≡ these)
@@ -121,7 +130,18 @@ SaysElse stays these ws = stays ≡ true → ws ≢ these
 
 -- they do none of what only a console does: it asks its node
 abbrev pub IsAsking : Bool → List (List ℕ) → Type 0
-IsAsking stays ws = (ws ≢ quit) × SaysElse stays shutdown ws × (ws ≢ spawn_link) × SaysElse stays status ws
+IsAsking stays ws = (ws ≢ quit) × SaysElse stays shutdown ws × (ws ≢ spawn_link) × SaysElse stays status ws × SaysElse stays help ws
+    × ((text : List ℕ) → SaysElse stays (names_with text) ws)
+
+-- a text in the place of such a beginning says this: it is refused as a name is
+abbrev pub BeginsNames : List ℕ → Result Command LineFault → Type 0
+BeginsNames text (Ok (NamesFrom prefix)) = SpellsText text prefix
+BeginsNames text (Err (Text f)) = RefusesText text f
+BeginsNames text _ = ⊥
+
+-- words ask for the names that begin with a text, which says this
+abbrev pub AsksForSome : Bool → List (List ℕ) → Result Command LineFault → Type 0
+AsksForSome stays ws r = (text : List ℕ) × SaysAtStaying stays (names_with text) ws × BeginsNames text r
 
 -- what words say in a console, of a server that stays or of another, or why they are refused
 abbrev pub WordsSay : Bool → List (List ℕ) → Result Command LineFault → Type 0
@@ -129,8 +149,10 @@ WordsSay stays ws (Ok Quit) = ws ≡ quit
 WordsSay stays ws (Ok Shutdown) = SaysAtStaying stays shutdown ws
 WordsSay stays ws (Ok SpawnLink) = ws ≡ spawn_link
 WordsSay stays ws (Ok Status) = SaysAtStaying stays status ws
+WordsSay stays ws (Ok Help) = SaysAtStaying stays help ws
+WordsSay stays ws (Ok (NamesFrom prefix)) = AsksForSome stays ws (Ok (NamesFrom prefix))
 WordsSay stays ws (Ok (Ask o)) = IsAsking stays ws × WordsAskNode ws (Ok o)
-WordsSay stays ws (Err f) = IsAsking stays ws × WordsAskNode ws (Err f)
+WordsSay stays ws (Err f) = (IsAsking stays ws × WordsAskNode ws (Err f)) ⊎ AsksForSome stays ws (Err f)
 
 abbrev pub SaysUnless : Bool → Option (List ℕ) → Option LineFault → List ℕ → Result Command LineFault → Type 0
 SaysUnless stays own (Some f) line r = r ≡ Err f

@@ -3,7 +3,7 @@ use Rattle.std.specs.Prelude.{ℕ, Bool, false, ◌≡◌, ◌<◌, ◌≤◌, �
 use Rattle.std.specs.List.{concat}
 use Rattle.std.specs.Io.KnownBytes.{Appends}
 use Rattle.registry_model.specs.Process.{Process}
-use Rattle.command_lines.specs.declared.Call.TheVariants.{Spawn}
+use Rattle.command_lines.specs.declared.Call.TheVariants.{Spawn, RegisteredNames}
 use Rattle.command_lines.specs.declared.Reply.{Reply}
 use Rattle.node_seats.specs.declared.fault.SeatFault.{SeatFault}
 use Rattle.node_seats.specs.declared.fault.SeatFault.TheVariants as seat
@@ -13,8 +13,10 @@ use Rattle.text_lines.specs.declared.faults.StreamFault.{StreamFault}
 use Rattle.text_lines.specs.declared.faults.StreamFault.TheVariants.{Read, Write, TooManyLines, Memory}
 use Rattle.text_lines.specs.Lines.{BeginsWithLines, LosesLines, LosesInto, HasNoLine, HasNoFeed, IsWithinLine, count_of, count_of_all, most_lines}
 use Rattle.text_lines.specs.Writing.{AppendsPart, Growth}
+use Rattle.console.specs.Chosen.{chosen_text}
 use Rattle.console.specs.Commands.{LineSays}
 use Rattle.console.specs.Greetings.{okay}
+use Rattle.console.specs.Help.{help_line}
 use Rattle.console.specs.Links.{left_by, linked_by, may_wait, most_links, own_text}
 use Rattle.console.specs.Outcomes.{outcome_text}
 use Rattle.console.specs.declared.ends.ConsoleEnd.{ConsoleEnd}
@@ -22,7 +24,7 @@ use Rattle.console.specs.declared.ends.ConsoleEnd.TheVariants as by
 use Rattle.console.specs.declared.orders.Order.{Order}
 use Rattle.console.specs.declared.orders.Order.TheVariants.{Call, Exit}
 use Rattle.console.specs.declared.orders.Command.{Command}
-use Rattle.console.specs.declared.orders.Command.TheVariants.{Ask, SpawnLink, Quit, Shutdown, Status}
+use Rattle.console.specs.declared.orders.Command.TheVariants.{Ask, SpawnLink, Quit, Shutdown, Status, Help, NamesFrom}
 use Rattle.console.specs.declared.status.Status.{Status as Standing}
 use Rattle.console.specs.Statuses.{status_outcome}
 
@@ -83,9 +85,15 @@ module _ {S : Type 0} (answers : Answering S) where
   abbrev pub MaySpawnLinked : Talk S → Talk S → Type 0
   MaySpawnLinked s t = (t ≡ s) ⊎ ((text : List ℕ) × HeedsSpawnLink s text t)
 
+  -- all names were asked for, and those are printed that begin so
+  abbrev pub ChoosesNames : ℕ → S → List ℕ → S → Type 0
+  ChoosesNames prefix s text t =
+      (r : Result Reply SeatFault) × answers s (Call RegisteredNames) false r t × (text ≡ chosen_text prefix r)
+
 module _ {S : Type 0} (answers : Answering S) (stands : Stands S) (stays : Bool) where
   -- This is printed for what a line says, this is left, and so it ends the console, if it does: an order is printed as it was answered,
-  -- and how the node and the server stand as it was told, which asks for nothing
+  -- and how the node and the server stand as it was told, which asks for nothing. Of the names that were answered only those are printed
+  -- that begin as the line says
   abbrev pub Heeds : Talk S → Result Command LineFault → List ℕ → Talk S → Option ConsoleEnd → Type 0
   Heeds s (Ok (Ask order)) text t ended =
       (r : Result Reply SeatFault) × answers s.state order (may_wait order s.links) r t.state × (t.links ≡ left_by order r s.links) × (text ≡ outcome_text r)
@@ -95,6 +103,9 @@ module _ {S : Type 0} (answers : Answering S) (stands : Stands S) (stays : Bool)
   Heeds s (Ok Shutdown) text t ended = (text ≡ okay) × (t ≡ s) × (ended ≡ Some by.Shutdown)
   Heeds s (Ok Status) text t ended =
       (r : Result Standing SeatFault) × stands s.state r × (text ≡ status_outcome r) × (t ≡ s) × (ended ≡ None)
+  Heeds s (Ok Help) text t ended = (text ≡ help_line) × (t ≡ s) × (ended ≡ None)
+  Heeds s (Ok (NamesFrom prefix)) text t ended =
+      ChoosesNames answers prefix s.state text t.state × (t.links ≡ s.links) × (ended ≡ None)
   Heeds s (Err f) text t ended = (text ≡ error_line (word_of f)) × (t ≡ s) × (ended ≡ None)
 
   -- the same, for a line of a server that stays or of another

@@ -6,6 +6,8 @@ pub mod Links
 pub mod Commands
 pub mod Greetings
 pub mod Outcomes
+pub mod Chosen
+pub mod Help
 pub mod Consoles
 pub mod Seats
 pub mod Statuses

@@ -4,13 +4,15 @@ ghost use Rattle.std.specs.Io.Buffered.{reader_remaining};
 ghost use Rattle.std.specs.Io.KnownBytes.{Keeps};
 ghost use Rattle.text_lines.specs.Lines.{IsKept};
 ghost use Rattle.text_lines.specs.Writing.{Writes};
-ghost use Rattle.console.specs.Consoles.{AnswersLine, EndsBy, Exits, HeedsSpawnLink, MayAnswer, MaySpawnLinked, SpawnsLinked, Stops, TalkStops, TalksUntil, Tells, TellStops, talk};
+ghost use Rattle.console.specs.Consoles.{AnswersLine, ChoosesNames, EndsBy, Exits, HeedsSpawnLink, MayAnswer, MaySpawnLinked, SpawnsLinked, Stops, TalkStops, TalksUntil, Tells, TellStops, talk};
 ghost use Rattle.console.specs.Links.{left_by, linked_in, may_wait};
 
 use crate::attendant::Attendant;
+use crate::chosen::chosen_line;
 use crate::commands::read_command;
 use crate::counting::next_line;
 use crate::ends::ConsoleEnd;
+use crate::help::help_line;
 use crate::links::Links;
 use crate::orders::{Command, Order};
 use crate::outcomes::outcome_line;
@@ -19,6 +21,7 @@ use command_lines::{Call, Reply, text_of};
 use node_seats::SeatFault;
 use std::alloc::{AllocError, Global};
 use std::io::{BufReader, Read, Write};
+use term::Name;
 use text_lines::{Line, StreamFault, WriteFault, first_words, hand_on, tell, write_text};
 
 /// Asks something of the attendant. A process whose exit was made is linked no longer.
@@ -84,6 +87,21 @@ fn reply_to_spawn_link<H, A: Attendant<H>>(
     outcome_line(alloc, attendant.node(), outcome)
 }
 
+/// What a look-up of the names is answered that begin so.
+fn chosen_names<H, A: Attendant<H>>(
+    rt: &H,
+    alloc: Global,
+    attendant: &mut A,
+    prefix: &Name,
+) -> Result<String, AllocError>
+    ensures { MatchResult result
+        (λ text. ChoosesNames A.answers prefix.now (A.state attendant.old) (string_bytes text) (A.state attendant.new))
+        (λ _. (text : List ℕ) × ChoosesNames A.answers prefix.now (A.state attendant.old) text (A.state attendant.new)) }
+{
+    let outcome = attendant.ask(rt, Order::Call(Call::RegisteredNames), false);
+    chosen_line(alloc, attendant.node(), prefix, outcome)
+}
+
 /// Has a line answered: the text, and how it ends the console, where it does.
 fn reply_to<H, A: Attendant<H>>(
     rt: &H,
@@ -112,6 +130,11 @@ fn reply_to<H, A: Attendant<H>>(
         Ok(Command::Status) => {
             let status = attendant.status(rt);
             Ok((status_line(alloc, status)?, None))
+        }
+        Ok(Command::Help) => Ok((String::from_str(alloc, help_line())?, None)),
+        Ok(Command::NamesFrom(prefix)) => {
+            let text = chosen_names(rt, alloc, attendant, &prefix)?;
+            Ok((text, None))
         }
         Ok(Command::Quit) => Ok((String::from_str(alloc, "ok\n")?, Some(ConsoleEnd::Quit))),
         Ok(Command::Shutdown) => Ok((String::from_str(alloc, "ok\n")?, Some(ConsoleEnd::Shutdown))),
@@ -214,8 +237,8 @@ fn exit_all<H, A: Attendant<H>>(rt: &H, attendant: &mut A, links: &Links)
 }
 
 /// Reads lines until `quit` or the end of the input, and answers each with one line: how the console ended. In a console of a
-/// server that stays `shutdown` is answered `ok` and ends it, too, and `status` tells how the node and the server stand. It answers
-/// `most` lines at most.
+/// server that stays `shutdown` is answered `ok` and ends it, too, `status` tells how the node and the server stand, `help` which lines
+/// there are, and `names` with the beginning of names those that have it. It answers `most` lines at most.
 ///
 /// A line that asks something is asked of the attendant, and answered with the text of the reply or the word of the refusal;
 /// any other is refused, an empty one too. What was answered is handed on before the console waits: for a further line where none is at

@@ -1,5 +1,5 @@
 //! What the lines of a console say: an arm for each.
-ghost use Rattle.std.specs.Prelude.{◌≡◌, ◌≢◌, ◌∷◌, [], ℕ, List, Some, true, map, take, IfOk, MatchBool, MatchResult};
+ghost use Rattle.std.specs.Prelude.{◌≡◌, ◌≢◌, ◌∷◌, [], ℕ, List, Some, true, map, take, IfOk, MatchBool, MatchOption, MatchResult};
 ghost use Rattle.std.specs.Option.{option_map};
 ghost use Rattle.text_lines.specs.Lines.{IsKept};
 ghost use Rattle.text_lines.specs.Words.{words as words_in};
@@ -7,7 +7,7 @@ ghost use Rattle.command_lines.specs.Commands.{asked_by};
 ghost use Rattle.term.specs.Rules.{SpellsRule};
 ghost use Rattle.term.specs.Spelling.{SpellsText, SpellsPid};
 ghost use Rattle.command_lines.specs.Grammar.{WordsAsk, FirstRefused, Name as AName, Pid as APid, Rule as ARule};
-ghost use Rattle.console.specs.Commands.{LineSays, WordsAskNode, WordsSay, SaysAtStaying, SaysElse, AsksOwn, AsksAsScript, OwnAsk, begins_lock, process_first, process_second, is_lock_word as any_lock_word, meant, meant_by, quit, shutdown, spawn_link, status};
+ghost use Rattle.console.specs.Commands.{LineSays, WordsAskNode, WordsSay, SaysAtStaying, SaysElse, BeginsNames, AsksOwn, AsksAsScript, OwnAsk, begins_lock, process_first, process_second, is_lock_word as any_lock_word, meant, meant_by, help, names_with, quit, shutdown, spawn_link, status};
 ghost use Rattle.console.specs.Links.{linked_in, own_text};
 
 use crate::links::Links;
@@ -172,6 +172,35 @@ fn is_status(words: &[&str], stays: bool) -> bool
     }
 }
 
+/// Whether words ask which lines there are: in a console of a server that stays.
+fn is_help(words: &[&str], stays: bool) -> bool
+    ensures { MatchBool result (SaysAtStaying stays help (map (λ word. word.now) words.now))
+        (SaysElse stays help (map (λ word. word.now) words.now)) }
+{
+    match words {
+        [word] => stays && matches!(*word, "help"),
+        _ => false,
+    }
+}
+
+/// The text with which names begin that words ask for: in a console of a server that stays.
+fn beginning_in<'a>(words: &[&'a str], stays: bool) -> Option<&'a str>
+    ensures { MatchOption result ((text : List ℕ) → SaysElse stays (names_with text) (map (λ word. word.now) words.now))
+        (λ text. SaysAtStaying stays (names_with text.now) (map (λ word. word.now) words.now)) }
+{
+    match words {
+        [word, text] if stays && matches!(*word, "names") => Some(*text),
+        _ => None,
+    }
+}
+
+/// What words say that ask for the names which begin with this text.
+fn read_beginning(text: &str) -> Result<Command, LineFault>
+    ensures { BeginsNames text.now result }
+{
+    Ok(Command::NamesFrom(parse_name(text)?))
+}
+
 /// Whether words ask for a process that is linked to the console.
 fn is_spawn_link(words: &[&str]) -> bool
     ensures { MatchBool result (map (λ word. word.now) words.now ≡ spawn_link) (map (λ word. word.now) words.now ≢ spawn_link) }
@@ -224,6 +253,12 @@ fn read_said(
     }
     if is_status(words, stays) {
         return Ok(Ok(Command::Status));
+    }
+    if is_help(words, stays) {
+        return Ok(Ok(Command::Help));
+    }
+    if let Some(text) = beginning_in(words, stays) {
+        return Ok(read_beginning(text));
     }
     match read_order(alloc, words)? {
         Ok(order) => Ok(Ok(Command::Ask(order))),

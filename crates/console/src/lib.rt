@@ -3,6 +3,7 @@
 
 mod answering;
 mod attendant;
+mod chosen;
 mod client;
 mod commands;
 mod cookie;
@@ -10,6 +11,7 @@ mod counting;
 mod ends;
 mod faults;
 mod greeting;
+mod help;
 mod links;
 mod orders;
 mod outcomes;

@@ -28,4 +28,8 @@ pub(crate) enum Command {
     Shutdown,
     /// It asks how the node stands, and the server.
     Status,
+    /// It asks which lines there are.
+    Help,
+    /// It asks for the names that begin with this one.
+    NamesFrom(Name),
 }

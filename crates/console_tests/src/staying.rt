@@ -1,4 +1,5 @@
-//! Consoles of a server that stays and of others: `shutdown`, `status`, as many lines as may come, and how each console ended.
+//! Consoles of a server that stays and of others: `shutdown`, `status`, `help`, names by their beginning, as many lines as may come, and how
+//! each console ended.
 use crate::clerks::{Clerk, answers, hold, leaves};
 use crate::ends::{Ended, ended_by};
 use console::{ConsoleEnd, ConsoleFault};
@@ -44,6 +45,17 @@ fn status_is_one_line_of_a_server_that_stays(rt: HostRuntime) {
         b"status a lone members a names 3 locks 2 calls 1204 serials 17 spans 1 consoles 5 steps 9120 memory 14680064\n\
         error bad_line\nerror bad_line\na.1\n";
     let lines = b"status\nstatus a\nSTATUS\nspawn\n".as_slice();
+    assert!(rt; answers(alloc, true, lines, text.as_slice(), ConsoleEnd::Input));
+}
+
+#[test]
+fn help_and_names_by_their_beginning_are_lines_of_a_server_that_stays(rt: HostRuntime) {
+    let alloc = rt.alloc();
+    let text = b"error bad_line\nerror bad_line\n".as_slice();
+    assert!(rt; answers(alloc, false, b"help\nnames x\n", text, ConsoleEnd::Input));
+    let text = b"help spawn spawn_link exit register re_register unregister whereis names notices set_lock del_lock join \
+        leave quit status help shutdown\nerror bad_line\nerror bad_byte\nerror bad_line\ntrue\na.1\n";
+    let lines = b"help\nhelp me\nnames x!\nnames x y\nnames x\nspawn\n".as_slice();
     assert!(rt; answers(alloc, true, lines, text.as_slice(), ConsoleEnd::Input));
 }
 

@@ -6,7 +6,7 @@ use Rattle.console.specs.Commands.{LineSays}
 use Rattle.console.specs.Links.{linked_in, own_text}
 use Rattle.console.specs.Outcomes.{outcome_text}
 use Rattle.console.specs.declared.orders.Command.{Command}
-use Rattle.console.specs.declared.orders.Command.TheVariants.{Ask}
+use Rattle.console.specs.declared.orders.Command.TheVariants.{Ask, NamesFrom}
 use Rattle.console.proofs.Leaving.{MayAnswer-spawned}
 use Rattle.console.proofs.answering.reply_to.Goals as goal
 
@@ -36,3 +36,14 @@ returns-in_err-text-in-Ok-SpawnLink g c = λ bytes k.
     (c.in_ok-order.ensures bytes k)) in
     MatchResult-err _ _ r p.0 p.1
     (MayAnswer-spawned g.A.Attendant.answers g.A.Attendant.stands c.args.stays bytes _ _ says c.in_err-text-in-Ok-SpawnLink.ensures)
+
+pub returns-in_err-text-in-Ok-NamesFrom : goal.returns-in_err-text-in-Ok-NamesFrom
+returns-in_err-text-in-Ok-NamesFrom g c = λ bytes k.
+    let r = c.from_residual-in_err-text-in-Ok-NamesFrom.result in
+    let p = err_from_is_err_and r c.from_residual-in_err-text-in-Ok-NamesFrom.ensures.1 in
+    let own = own_text (linked_in c.args.links.now) in
+    let says = subst (λ (said : Command). LineSays c.args.stays own bytes (Ok said)) c.in-Ok-NamesFrom.field-0-is
+    (subst (λ (said : Result Command LineFault). LineSays c.args.stays own bytes said) c.in-Ok-NamesFrom.is
+    (c.in_ok-order.ensures bytes k)) in
+    let chosen = c.in_err-text-in-Ok-NamesFrom.ensures in
+    MatchResult-err _ _ r p.0 p.1 (inr (chosen.0, None, (Ok (NamesFrom c.in-Ok-NamesFrom.prefix), says, (chosen.1, refl, refl))))
