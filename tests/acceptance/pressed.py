@@ -3,14 +3,15 @@ are out."""
 
 import fcntl
 import os
+import re
 import resource
 import subprocess
 import time
 from contextlib import suppress
 from functools import partial
 
-from .outcomes import Failure, Test, expect_same
-from .served import PIPES, Console, Served, listen_to
+from .outcomes import Failure, Test, expect_same, shown
+from .served import PIPES, Console, Served, listen_to, wait_for
 from .talks import hears
 from .waits import OVER_TCP, attach, shut_down, until_there_is_a_place
 
@@ -180,6 +181,37 @@ def few_descriptors(program):
         shut_down(served, console, seconds)
 
 
+def under(limits, words):
+    """The words that run a program under limits of the shell, as `-n 16`."""
+    return ["sh", "-c", f'ulimit {limits} && exec "$@"', "sh", *words]
+
+
+class Limited(Served):
+    """One that may have sixteen descriptors open."""
+
+    def start(self, words):
+        super().start(under("-n 16", words))
+
+
+def few_descriptors_at_the_start(program):
+    """Where there are too few descriptors for all consoles the server says for how many they serve, and these are served at once."""
+    with Limited(program, ["--stay", "--nodes", "a", "--consoles", "16"]) as served:
+        seconds = program.seconds
+        wait_for(served.process.stderr, time.monotonic() + seconds, "line on standard error")
+        line = served.process.stderr.readline()
+        found = re.fullmatch(rb"descriptors for (\d+) of 16 consoles\n", line)
+        if not found or not 4 <= int(found[1]) < 16:
+            raise Failure(f"expected for how many consoles the descriptors serve, got {shown(line)}")
+        consoles = [Console(served) for _ in range(int(found[1]))]
+        for console in consoles:
+            expect_same("an answer", b"ok", hears(console, attach(), seconds))
+        status = hears(consoles[-1], b"status", seconds).split()
+        expect_same("how many consoles there are", found[1], status[16])
+        if int(status[20]) == 0:
+            raise Failure("there is no descriptor left to see how much memory it has")
+        shut_down(served, consoles[0], seconds)
+
+
 def tests(program, root):
     yield Test("pressed/unread_lines_hold_nobody_up", partial(unread_lines_hold_nobody_up, program))
     yield Test("pressed/first_line_by_bytes_is_ended_at_a_socket", partial(first_line_by_bytes_is_ended, program))
@@ -190,5 +222,6 @@ def tests(program, root):
         lines_in_one_piece_are_answered,
         answers_before_a_lock_that_waits,
         few_descriptors,
+        few_descriptors_at_the_start,
     ]:
         yield Test(f"pressed/{test.__name__}", partial(test, program))
