@@ -6,11 +6,13 @@ import os
 import re
 import resource
 import subprocess
+import tempfile
 import time
 from contextlib import suppress
 from functools import partial
 
-from .outcomes import Failure, Test, expect_same, shown
+from .outcomes import Failure, Test, expect_same, expect_status, shown
+from .programs import run
 from .served import PIPES, Console, Served, listen_to, wait_for
 from .talks import hears
 from .waits import OVER_TCP, attach, shut_down, until_there_is_a_place
@@ -212,6 +214,17 @@ def few_descriptors_at_the_start(program):
         shut_down(served, consoles[0], seconds)
 
 
+def threads_that_cannot_be_had(program):
+    """A server that stays whose threads can't be had, for want of room for their stacks, says so, and doesn't say that it listens."""
+    with tempfile.TemporaryDirectory(prefix="pressed-") as folder:
+        words = [program.path, "serve", "--stay", "--listen", f"unix:{folder}/socket", "--nodes", "a", "--consoles", "64"]
+        ran = run(under("-v 400000", words), program.seconds)
+        expect_same("standard output", b"", ran.stdout)
+        expect_same("standard error", b"error: no memory or no threads for so many nodes and consoles\n", ran.stderr)
+        expect_status(1, ran.returncode)
+        expect_same("what is left in the folder", b"", os.fsencode(" ".join(os.listdir(folder))))
+
+
 def tests(program, root):
     yield Test("pressed/unread_lines_hold_nobody_up", partial(unread_lines_hold_nobody_up, program))
     yield Test("pressed/first_line_by_bytes_is_ended_at_a_socket", partial(first_line_by_bytes_is_ended, program))
@@ -223,5 +236,6 @@ def tests(program, root):
         answers_before_a_lock_that_waits,
         few_descriptors,
         few_descriptors_at_the_start,
+        threads_that_cannot_be_had,
     ]:
         yield Test(f"pressed/{test.__name__}", partial(test, program))
