@@ -3,6 +3,7 @@ pub mod Cookies
 pub mod Faults
 pub mod Clients
 pub mod Links
+pub mod Locking
 pub mod Commands
 pub mod Greetings
 pub mod Outcomes

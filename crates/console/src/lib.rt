@@ -13,6 +13,7 @@ mod faults;
 mod greeting;
 mod help;
 mod links;
+mod locking;
 mod orders;
 mod outcomes;
 mod serving;

@@ -1,5 +1,5 @@
 //! Consoles at seats.
-ghost use Rattle.std.specs.Prelude.{◌≡◌, false, true, IfErr, IfOk, MatchResult};
+ghost use Rattle.std.specs.Prelude.{◌≡◌, false, true, IfErr, IfOk, IfSome, MatchResult};
 ghost use Rattle.std.specs.Io.Buffered.{reader_remaining};
 ghost use Rattle.text_lines.specs.Lines.{most_lines};
 ghost use Rattle.node_seats.specs.Callers.{IsEnd};
@@ -13,9 +13,11 @@ use crate::answering::answer_lines;
 use crate::attendant::Attendant;
 use crate::client::{Client, Peer};
 use crate::ends::ConsoleEnd;
+use crate::locking::{is_lock_call, may_hold, request_of, waits_in_line};
 use crate::orders::Order;
 use crate::status::{House, Load, Status};
 use command_lines::{Call, Reply};
+use lock_lines::{Request, Turn};
 use node_seats::{Beside, Notes, Seat, SeatFault, Transcript};
 use std::alloc::Global;
 use std::io::{BufReader, Read, Write};
@@ -136,16 +138,164 @@ impl<'a, T: Notes, C: Client + Drop, B> ClientSeat<'a, T, C, B> {
         call: Call,
         linked: bool,
     ) -> Result<Reply, SeatFault>
+    where
+        B: House<H>,
         ensures { SeatGives self.old.seat (Calls call) result self.new.seat }
     {
-        if !matches!(call, Call::SetLock(..)) {
+        if !is_lock_call(&call) {
             return self.seat.call(rt, call);
         }
+        let members = self.seat.status()?.members;
+        let in_line = waits_in_line(&call, &members);
+        match request_of(&call, &members) {
+            Some(request) if in_line => self.set_in_turn(rt, call, &request, linked),
+            Some(request) => self.set_or_delete(rt, call, &request, linked),
+            None => self.seat.call(rt, call),
+        }
+    }
+
+    /// Asks for a lock once its turn has come. It leaves its line when it is answered or given up.
+    fn set_in_turn<H: Wait + Clock>(
+        &mut self,
+        rt: &H,
+        call: Call,
+        request: &Request,
+        linked: bool,
+    ) -> Result<Reply, SeatFault>
+    where
+        B: House<H>,
+        ensures { SeatGives self.old.seat (Calls call) result self.new.seat }
+    {
+        let turn = self.await_turn(rt, request, linked)?;
+        self.house.lines().let_pass(rt, request);
+        let outcome = self.set_lock(rt, call, request, linked);
+        self.house.lines().leave(rt, turn);
+        outcome
+    }
+
+    /// Asks for a lock, or gives one back, without a turn.
+    fn set_or_delete<H: Wait + Clock>(
+        &mut self,
+        rt: &H,
+        call: Call,
+        request: &Request,
+        linked: bool,
+    ) -> Result<Reply, SeatFault>
+    where
+        B: House<H>,
+        ensures { SeatGives self.old.seat (Calls call) result self.new.seat }
+    {
+        if matches!(call, Call::SetLock(..)) {
+            self.set_lock(rt, call, request, linked)
+        } else {
+            self.delete_lock(rt, call, request)
+        }
+    }
+
+    /// Waits in the line of a lock until the turn of a call has come, or until nobody waits for the call any more.
+    fn await_turn<H: Wait + Clock>(
+        &self,
+        rt: &H,
+        request: &Request,
+        linked: bool,
+    ) -> Result<Turn, SeatFault>
+    where
+        B: House<H>,
+        ensures { IfErr result IsEnd }
+    {
+        let lines = self.house.lines();
+        let turn = lines.enter(rt, request)?;
+        for _ in rt.forever() {
+            if lines.has_come(rt, &turn) {
+                return Ok(turn);
+            }
+            turn.rest(rt);
+            if let Some(fault) = self.needs_no_turn(linked) {
+                lines.leave(rt, turn);
+                return Err(fault);
+            }
+        }
+        unreachable!()
+    }
+
+    /// Why a call needs no turn any more, if it needs none: its client has gone, or its node answers nobody.
+    fn needs_no_turn(&self, linked: bool) -> Option<SeatFault>
+        ensures { IfSome result IsEnd }
+    {
+        if is_given_up(self.client.peer(), linked) {
+            return Some(SeatFault::Closed);
+        }
+        self.seat.status().err()
+    }
+
+    /// Asks for a lock, and tells the house what the process may have by it.
+    fn set_lock<H: Wait + Clock>(
+        &mut self,
+        rt: &H,
+        call: Call,
+        request: &Request,
+        linked: bool,
+    ) -> Result<Reply, SeatFault>
+    where
+        B: House<H>,
+        ensures { SeatGives self.old.seat (Calls call) result self.new.seat }
+    {
         let waiting = Waiting {
             client: &self.client,
             linked,
         };
-        self.seat.call_beside(rt, call, &waiting)
+        self.house.lines().ask(rt, request)?;
+        let outcome = self.seat.call_beside(rt, call, &waiting);
+        if may_hold(&outcome) {
+            self.house.lines().let_pass(rt, request);
+        } else {
+            self.house.lines().take_back(rt, request);
+        }
+        outcome
+    }
+
+    /// Gives a lock back, and tells the house so.
+    fn delete_lock<H: Wait + Clock>(
+        &mut self,
+        rt: &H,
+        call: Call,
+        request: &Request,
+    ) -> Result<Reply, SeatFault>
+    where
+        B: House<H>,
+        ensures { SeatGives self.old.seat (Calls call) result self.new.seat }
+    {
+        let outcome = self.seat.call(rt, call);
+        if outcome.is_ok() {
+            self.house.lines().take_back(rt, request);
+        }
+        outcome
+    }
+
+    /// Has a process exit, and tells the house that it is dead.
+    fn exit<H: Wait + Clock>(&mut self, rt: &H, process: &Pid) -> Result<Reply, SeatFault>
+    where
+        B: House<H>,
+        ensures { SeatGives self.old.seat (Exit process.now) result self.new.seat }
+    {
+        let outcome = exit(rt, &mut self.seat, process);
+        if outcome.is_ok() {
+            self.house.lines().bury(rt, process);
+        }
+        outcome
+    }
+
+    /// Has the node leave, and tells the house so.
+    fn leave<H: Wait + Clock>(&mut self, rt: &H) -> Result<Reply, SeatFault>
+    where
+        B: House<H>,
+        ensures { SeatGives self.old.seat Leave result self.new.seat }
+    {
+        let outcome = leave(rt, &mut self.seat);
+        if outcome.is_ok() {
+            self.house.lines().forget(rt, self.seat.node());
+        }
+        outcome
     }
 
     /// How the node of the seat stands, and what the house bears.
@@ -187,8 +337,8 @@ where
         match order {
             Order::Call(call) => self.call(rt, call, linked),
             Order::Whereis(name) => look_up(&mut self.seat, &name),
-            Order::Exit(process) => exit(rt, &mut self.seat, &process),
-            Order::Leave => leave(rt, &mut self.seat),
+            Order::Exit(process) => self.exit(rt, &process),
+            Order::Leave => self.leave(rt),
         }
     }
 

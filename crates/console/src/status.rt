@@ -4,6 +4,7 @@ ghost use Rattle.console.specs.declared.status.Load.{Load as AnyLoad};
 ghost use Rattle.console.specs.Statuses.{load_text, node_text, numbers_text, status_line as any_line, status_outcome, standing_word};
 
 use crate::outcomes::seat_line;
+use lock_lines::LockLines;
 use node_seats::{NodeStatus, Numbers, SeatFault};
 use std::alloc::{AllocError, Global};
 use std::fmt::Write as _;
@@ -34,6 +35,9 @@ pub trait House<H> {
     /// What it bears: the consoles of this moment, and the memory of its last look.
     fn load(&self, rt: &H) -> Load
         ensures { bears self.now result };
+
+    /// The lines in which the lock calls of its consoles wait.
+    fn lines(&self) -> &LockLines;
 }
 
 /// The word for whether a node is joined.

@@ -1,5 +1,6 @@
 //! Clients at the other end of a console.
 use console::{Client, House, Load, Peer};
+use lock_lines::LockLines;
 use std::alloc::Global;
 use std::sync::Arc;
 use std::sync::atomic::{AtomicU32, Ordering};
@@ -16,7 +17,17 @@ impl Client for Listener {
 
 /// A server of five consoles.
 #[derive(Drop)]
-pub(crate) struct Home;
+pub(crate) struct Home {
+    lines: LockLines,
+}
+
+impl Home {
+    pub(crate) fn new(alloc: Global) -> Self {
+        Home {
+            lines: LockLines::new(alloc),
+        }
+    }
+}
 
 impl<H> House<H> for Home {
     ghost use Rattle.std.specs.Prelude.{⊤};
@@ -28,6 +39,10 @@ impl<H> House<H> for Home {
             consoles: 5,
             memory: 14_680_064,
         }
+    }
+
+    fn lines(&self) -> &LockLines {
+        &self.lines
     }
 }
 

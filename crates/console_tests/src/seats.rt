@@ -151,6 +151,7 @@ fn hold<H: Wait + Clock, C: Client + Drop>(
     match BufReader::new(alloc, Cursor::new(lines)) {
         Ok(mut reader) => {
             let mut written = Vec::new(alloc);
+            let home = Home::new(alloc);
             let (result, seat) = serve_staying(
                 rt,
                 alloc,
@@ -158,7 +159,7 @@ fn hold<H: Wait + Clock, C: Client + Drop>(
                 &mut written,
                 seat,
                 client,
-                &Home,
+                &home,
             );
             let is_due = match result {
                 Ok(end) => end == wanted && written.as_slice() == text,

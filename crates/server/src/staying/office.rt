@@ -5,6 +5,7 @@ use crate::staying::notes::Note;
 use crate::staying::options::StayOptions;
 use console::{House, Load};
 use crossbeam_channel::{Receiver, Sender, bounded};
+use lock_lines::LockLines;
 use node_threads::{Seat, SeatFault};
 use std::alloc::{AllocError, Global};
 use std::sync::atomic::{AtomicU64, Ordering};
@@ -22,6 +23,8 @@ pub(crate) struct Office<R: Wait + Drop + Copy> {
     pub(crate) hall: Arc<Mutex<Hall>, Global>,
     /// How many bytes of memory the process has, as the desk has seen last.
     pub(crate) memory: Arc<AtomicU64, Global>,
+    /// The lines in which lock calls wait, over all nodes.
+    pub(crate) lines: Arc<LockLines, Global>,
     /// Connections that wait for the worker that was engaged for them.
     pub(crate) guests: Receiver<Guest>,
     pub(crate) desk: Sender<Message>,
@@ -37,6 +40,7 @@ impl<R: Wait + Drop + Copy> Office<R> {
         let options = Arc::try_clone(&self.options)?;
         let hall = Arc::try_clone(&self.hall)?;
         let memory = Arc::try_clone(&self.memory)?;
+        let lines = Arc::try_clone(&self.lines)?;
         let guests = self.guests.clone()?;
         let desk = self.desk.clone()?;
         Ok(Office {
@@ -46,6 +50,7 @@ impl<R: Wait + Drop + Copy> Office<R> {
             options,
             hall,
             memory,
+            lines,
             guests,
             desk,
         })
@@ -108,5 +113,9 @@ impl<R: Wait + Drop + Copy> House<R> for Office<R> {
     fn load(&self, rt: &R) -> Load {
         let memory = self.memory.load(Ordering::SeqCst);
         self.hall.lock(rt).load(memory)
+    }
+
+    fn lines(&self) -> &LockLines {
+        &self.lines
     }
 }

@@ -11,6 +11,7 @@ use crate::staying::office::Office;
 use crate::staying::options::StayOptions;
 use crate::staying::worker::Worker;
 use crossbeam_channel::{Receiver, RecvTimeoutError, Sender, bounded};
+use lock_lines::LockLines;
 use std::alloc::{AllocError, Global};
 use std::io::Write;
 use std::snapshot::Snapshot;
@@ -176,6 +177,7 @@ impl Staff {
             options: Arc::new(alloc, options)?,
             hall: Arc::try_clone(&hall)?,
             memory: Arc::try_clone(&memory)?,
+            lines: Arc::new(alloc, LockLines::new(alloc))?,
             guests,
             desk,
         };

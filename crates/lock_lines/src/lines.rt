@@ -1,0 +1,146 @@
+//! The lines of a server, which all its consoles share.
+use crate::grants::{Grant, Grants};
+use crate::line::Line;
+use crate::request::Request;
+use std::alloc::{AllocError, Global};
+use std::sync::{Arc, Mutex, Wait};
+use std::thread::Parker;
+use std::time::Duration;
+use term::{Node, Pid};
+
+/// How long who waits for a turn sleeps at most, in milliseconds. A bell ends a sleep; this is how often it is looked whether anybody
+/// waits for the call still.
+const LONGEST_SLEEP: u64 = 100;
+
+/// What lies under the lock of the lines.
+#[derive(Drop)]
+struct State {
+    line: Line,
+    grants: Grants,
+}
+
+/// The lines in which lock calls wait at a server, one for each resource, over all its nodes.
+///
+/// A call that waits for as long as it has to enters, is put to its node once its turn has come, and leaves when it is answered or given
+/// up: its turn has come when no call that came before it, under another requester, waits for the resource at a node of its own. Whoever
+/// puts a call to its node says so before and behind that: so a call passes all others whose requester has the lock already, or is the
+/// next to have it, at a node of its own.
+#[derive(Drop)]
+pub struct LockLines {
+    alloc: Global,
+    state: Mutex<State>,
+}
+
+/// The place of a call in its line.
+#[derive(Drop)]
+pub struct Turn {
+    number: u64,
+    bell: Arc<Parker, Global>,
+}
+
+impl Turn {
+    /// Sleeps until the turn may have come, and for a tenth of a second at most.
+    pub fn rest<R: Wait>(&self, rt: &R) {
+        self.bell
+            .park_timeout(rt, Duration::from_millis(LONGEST_SLEEP));
+    }
+}
+
+/// The grant that is asked for at a node.
+fn grant_at(request: &Request, node: &Node) -> Grant {
+    Grant {
+        holder: request.holder.copy(),
+        resource: request.id.resource.copy(),
+        requester: request.id.requester.copy(),
+        node: node.copy(),
+    }
+}
+
+/// What is asked for counts at each of these nodes, or at none where there is no memory for that.
+fn note_all(grants: &mut Grants, request: &Request, nodes: &[Node]) -> Result<(), AllocError> {
+    for (place, node) in nodes.iter().enumerate() {
+        if let Err(refused) = grants.note(grant_at(request, node)) {
+            take_all(grants, request, &nodes[..place]);
+            return Err(refused);
+        }
+    }
+    Ok(())
+}
+
+/// What was asked for counts once less at each of these nodes.
+fn take_all(grants: &mut Grants, request: &Request, nodes: &[Node]) {
+    for node in nodes {
+        grants.take(&grant_at(request, node));
+    }
+}
+
+impl LockLines {
+    /// Nobody waits, and nobody has a lock. It takes no memory yet.
+    pub fn new(alloc: Global) -> Self {
+        LockLines {
+            alloc,
+            state: Mutex::new(State {
+                line: Line::new(alloc),
+                grants: Grants::new(alloc),
+            }),
+        }
+    }
+
+    /// A call enters, behind all that wait.
+    pub fn enter<R: Wait>(&self, rt: &R, request: &Request) -> Result<Turn, AllocError> {
+        let bell = Arc::new(self.alloc, Parker::new())?;
+        let waiter = Arc::try_clone(&bell)?;
+        let mut state = self.state.lock(rt);
+        let passes = state.grants.holds(&request.id, &request.nodes);
+        let number = state.line.enter(request.copy(), passes, bell)?;
+        Ok(Turn {
+            number,
+            bell: waiter,
+        })
+    }
+
+    /// Whether the turn of a call has come.
+    pub fn has_come<R: Wait>(&self, rt: &R, turn: &Turn) -> bool {
+        self.state.lock(rt).line.may_go(turn.number)
+    }
+
+    /// A call leaves, and whose turn has come by that is woken.
+    pub fn leave<R: Wait>(&self, rt: &R, turn: Turn) {
+        let mut state = self.state.lock(rt);
+        state.line.leave(turn.number);
+        state.line.ring();
+    }
+
+    /// A call is to be put to its node: what it asks for counts as granted from now on.
+    pub fn ask<R: Wait>(&self, rt: &R, request: &Request) -> Result<(), AllocError> {
+        let mut state = self.state.lock(rt);
+        note_all(&mut state.grants, request, request.nodes.as_slice())
+    }
+
+    /// Whoever waits for more of this lock passes all others from now on, and is woken: its requester has it, or is the next to have it.
+    pub fn let_pass<R: Wait>(&self, rt: &R, request: &Request) {
+        let mut state = self.state.lock(rt);
+        state.line.let_pass(request);
+        state.line.ring();
+    }
+
+    /// A lock was refused, or given back.
+    pub fn take_back<R: Wait>(&self, rt: &R, request: &Request) {
+        let mut state = self.state.lock(rt);
+        take_all(&mut state.grants, request, request.nodes.as_slice());
+    }
+
+    /// A process is dead: it has no locks, and its calls needn't wait for their turn to be refused.
+    pub fn bury<R: Wait>(&self, rt: &R, process: &Pid) {
+        let mut state = self.state.lock(rt);
+        state.grants.drop_holder(process);
+        state.line.let_holder_pass(process);
+        state.line.ring();
+    }
+
+    /// A node has left: nobody has a lock there, and its processes have none.
+    pub fn forget<R: Wait>(&self, rt: &R, node: &Node) {
+        let mut state = self.state.lock(rt);
+        state.grants.drop_node(node);
+    }
+}
