@@ -8,6 +8,5 @@ mod request;
 
 pub use grants::{Grant, Grants};
 pub use line::Line;
-
 pub use lines::{LockLines, Turn};
 pub use request::Request;

@@ -77,7 +77,7 @@ impl Line {
     ) -> Result<u64, AllocError>
         ensures number { IfOk result (λ number. number ≡ self.old.next) }
         ensures next { OnOk result (self.new.next ≡ self.old.next + 1) }
-        ensures entered { OnOk result (self.new.calls.items ≡ self.old.calls.items 
+        ensures entered { OnOk result (self.new.calls.items ≡ self.old.calls.items
             ++ record { number = self.old.next; request = request; passes = passes; bell = bell } ∷ []) }
         ensures refused { OnErr result ((self.new.next ≡ self.old.next) × (self.new.calls.items ≡ self.old.calls.items)) }
     {

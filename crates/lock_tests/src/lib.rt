@@ -7,6 +7,8 @@ mod calls;
 #[cfg(test)]
 mod inboxes;
 #[cfg(test)]
+mod lines;
+#[cfg(test)]
 mod meshes;
 #[cfg(test)]
 mod registrars;
