@@ -7,7 +7,7 @@ use Rattle.shared_table.specs.declared.Item.{Item}
 use Rattle.shared_table.specs.declared.Item.TheVariants.{Letter, Task}
 use Rattle.node_seats.specs.declared.caller.Caller.{Caller}
 use Rattle.node_seats.specs.declared.fault.SeatFault.{SeatFault}
-use Rattle.node_seats.specs.declared.fault.SeatFault.TheVariants.{NoSuchNode, Closed, Step}
+use Rattle.node_seats.specs.declared.fault.SeatFault.TheVariants.{NoSuchNode, NodeLeft, Closed, Step}
 use Rattle.node_seats.specs.declared.hub.Hub.{Hub}
 use Rattle.node_seats.specs.declared.place.Place.{Place}
 use Rattle.shared_table.specs.Readers.{Seen}
@@ -89,17 +89,19 @@ abbrev pub Offers : Item → Option Item → Caller → Caller → Type 0
 Offers i None c d = Puts i c d
 Offers i (Some back) c d = (back ≡ i) × (d.line ≡ c.line)
 
--- no reply comes any more for such a reason, and the node itself says none of them of an event
+-- no reply comes any more for such a reason alone
 abbrev pub IsEnd : SeatFault → Type 0
-IsEnd NoSuchNode = ⊥
-IsEnd (Step fault) = ⊥
-IsEnd _ = Unit {0}
+IsEnd NodeLeft = Unit {0}
+IsEnd Closed = Unit {0}
+IsEnd _ = ⊥
 
--- What is known of an item that came to this: the node said so itself only of what was put into its inbox
+-- What is known of an item that came to this: the node said so itself only of what was put into its inbox, or no reply comes any more
 abbrev pub MayPut : SeatFault → Item → Caller → Caller → Type 0
 MayPut NoSuchNode i c d = Puts i c d
 MayPut (Step fault) i c d = Puts i c d
-MayPut _ i c d = (d.line ≡ c.line) ⊎ Puts i c d
+MayPut NodeLeft i c d = (d.line ≡ c.line) ⊎ Puts i c d
+MayPut Closed i c d = (d.line ≡ c.line) ⊎ Puts i c d
+MayPut _ i c d = ⊥
 
 -- what its caller is told: a node has the nodes of its cluster, and calls none of them a stranger
 abbrev pub told_as : {A : Type 0} → Result A SeatFault → Result A SeatFault

@@ -1,10 +1,10 @@
 -- Why a seat isn't made, or what it asks isn't done.
-use Rattle.std.specs.Prelude.{Bool, true, false, ◌≡◌, ◌⊎◌, List, [], ◌∷◌, ◌++◌}
+use Rattle.std.specs.Prelude.{Bool, true, false, ◌≡◌, ◌⊎◌, Option, Some, None, List, [], ◌∷◌, ◌++◌}
 use Rattle.shared_table.specs.declared.Event.{Event}
 use Rattle.shared_table.specs.declared.TaskFault.{TaskFault}
 use Rattle.shared_table.specs.declared.TaskFault.TheVariants as of_task
 use Rattle.node_seats.specs.declared.fault.SeatFault.{SeatFault}
-use Rattle.node_seats.specs.declared.fault.SeatFault.TheVariants.{NoSuchNode, NodeLeft, SeatsSpent, Step, Memory}
+use Rattle.node_seats.specs.declared.fault.SeatFault.TheVariants.{NoSuchNode, NodeLeft, Closed, SeatsSpent, Step, Memory}
 
 -- the node's refusal, as the seat answers it
 abbrev pub fault_by : TaskFault → SeatFault
@@ -17,12 +17,27 @@ abbrev pub IsAskRefused : SeatFault → Bool → Type 0
 IsAskRefused NoSuchNode known = known ≡ false
 IsAskRefused _ known = Unit {0}
 
--- What the node was asked for where an event comes to this: for it once where the node refused it itself, for nothing where its contact is a
--- stranger, and else for it once or for nothing
+-- What the node was asked for where an event comes to this: for it once where the node refused it itself, for nothing where its contact is
+-- a stranger, and for it once or for nothing where no reply comes any more. To nothing else it comes where memory was there for it
 abbrev pub MayAsk : SeatFault → Event → List Event → List Event → Type 0
 MayAsk NoSuchNode e before after = after ≡ before
 MayAsk (Step fault) e before after = after ≡ before ++ e ∷ []
-MayAsk _ e before after = (after ≡ before) ⊎ (after ≡ before ++ e ∷ [])
+MayAsk NodeLeft e before after = (after ≡ before) ⊎ (after ≡ before ++ e ∷ [])
+MayAsk Closed e before after = (after ≡ before) ⊎ (after ≡ before ++ e ∷ [])
+MayAsk _ e before after = ⊥
+
+-- why nothing is asked for what there was no memory to make, by what the caller has against it, if anything: that comes first
+abbrev pub unmade : Option SeatFault → SeatFault
+unmade None = Memory
+unmade (Some cause) = cause
+
+-- What that is: the contact is a stranger; or it is known, and no reply comes any more, or there was no memory
+abbrev pub IsUnmade : SeatFault → Bool → Type 0
+IsUnmade NoSuchNode known = known ≡ false
+IsUnmade NodeLeft known = known ≡ true
+IsUnmade Closed known = known ≡ true
+IsUnmade Memory known = known ≡ true
+IsUnmade _ known = ⊥
 
 -- why a seat isn't made: whether the cluster has the node, and whether it can make no further seat
 abbrev pub IsSeatRefused : SeatFault → Bool → Bool → Type 0

@@ -10,7 +10,7 @@ use Rattle.shared_table.specs.Held.{Looping}
 use Rattle.shared_table.specs.Coming.{IsLoopOf}
 use Rattle.shared_table.specs.Left.{logs_leave}
 use Rattle.node_seats.specs.declared.fault.SeatFault.{SeatFault}
-use Rattle.node_seats.specs.declared.fault.SeatFault.TheVariants.{Step}
+use Rattle.node_seats.specs.declared.fault.SeatFault.TheVariants.{SeatsSpent, Step, Memory}
 
 -- one ticket comes before another: it is of an earlier seat, or of the same and for an earlier call
 abbrev pub comes_before : Ticket → Ticket → Bool
@@ -36,9 +36,11 @@ IsTold name reply length = ∥ TellsNext name reply length ∥₁
 abbrev pub IsToldTo : ℕ → Ticket → Result Effect TaskFault → ℕ → Type 0
 IsToldTo name ticket outcome length = IsTold name (record { ticket = ticket; outcome = outcome }) length
 
--- and it told each refusal by the node
+-- and it told each refusal by the node. What is asked comes to no want of memory, and of seats
 abbrev pub IsFaultTold : ℕ → Ticket → SeatFault → ℕ → Type 0
 IsFaultTold name ticket (Step fault) length = IsToldTo name ticket (Err (of_task.Step fault)) length
+IsFaultTold name ticket SeatsSpent length = ⊥
+IsFaultTold name ticket Memory length = ⊥
 IsFaultTold name ticket _ length = Unit {0}
 
 -- a loop of this node came to where its log has that the node left

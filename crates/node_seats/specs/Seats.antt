@@ -1,17 +1,18 @@
 -- Seats, and what they were answered.
-use Rattle.std.specs.Prelude.{ℕ, ◌≡◌, ◌==◌, Option, Some, None, Result, Ok, Err, List, [], ◌∷◌, ◌++◌}
+use Rattle.std.specs.Prelude.{ℕ, true, ◌≡◌, ◌==◌, ◌⊎◌, Option, Some, None, Result, Ok, Err, List, [], ◌∷◌, ◌++◌}
 use Rattle.std.specs.List.{find}
 use Rattle.link.specs.Mailboxes.{Room}
 use Rattle.shared_table.specs.declared.Answer.{Answer}
 use Rattle.shared_table.specs.declared.Call.{Call}
 use Rattle.shared_table.specs.declared.Reply.{Reply}
 use Rattle.shared_table.specs.declared.Reply.TheVariants.{Pid, Undefined}
-use Rattle.shared_table.specs.NodeEventsSeen.{reply_of}
+use Rattle.shared_table.specs.NodeEventsSeen.{reply_of, is_list}
 use Rattle.registry_model.specs.Process.{Process, Text}
 use Rattle.shared_table.specs.declared.Event.{Event}
 use Rattle.shared_table.specs.declared.Event.TheVariants as event
 use Rattle.shared_table.specs.declared.WorldEvent.TheVariants.{At}
 use Rattle.shared_table.specs.declared.SeatEntry.{SeatEntry}
+use Rattle.shared_table.specs.Events.{knows_contact}
 use Rattle.shared_table.specs.declared.Item.{Item}
 use Rattle.shared_table.specs.declared.Effect.{Effect}
 use Rattle.shared_table.specs.declared.Effect.TheVariants.{Answered as IsAnswer}
@@ -19,7 +20,7 @@ use Rattle.node_seats.specs.declared.caller.Caller.{Caller}
 use Rattle.node_seats.specs.declared.parcel.Parcel.{Parcel}
 use Rattle.node_seats.specs.declared.place.Place.{Place}
 use Rattle.node_seats.specs.declared.fault.SeatFault.{SeatFault}
-use Rattle.node_seats.specs.declared.fault.SeatFault.TheVariants.{NodeLeft, Closed, Step}
+use Rattle.node_seats.specs.declared.fault.SeatFault.TheVariants.{NodeLeft, Closed, SeatsSpent, Step, Memory}
 use Rattle.shared_table.specs.declared.TaskFault.{TaskFault}
 use Rattle.shared_table.specs.declared.TaskFault.TheVariants as task
 use Rattle.node_seats.specs.Addresses.{Inbox}
@@ -99,10 +100,34 @@ IsToldFault s (Step fault) t = IsAnswered s (Err (task.Step fault)) t
 IsToldFault s _ t = Learns s.seen t.seen
 
 -- an event comes to this fault: the node was asked for it once at most, and the transcript is as it was
-pub record Unanswered (fault : SeatFault) (e : Event) (s t : Sitting) : Type 0 where
+pub record IsRefused (fault : SeatFault) (e : Event) (s t : Sitting) : Type 0 where
   pub asked : MayAsk fault e s.asked t.asked
   pub kept : t ≡ record s { asked = t.asked; seen = t.seen }
   pub told : IsToldFault s fault t
+
+-- nothing was asked, and nothing has changed: there was no memory for it, and its contact, if it has one, is of the cluster
+abbrev pub IsUnasked : Event → Sitting → Sitting → Type 0
+IsUnasked e s t = (t ≡ s) × (knows_contact s.nodes e ≡ true)
+
+-- the node was asked for a call, once, and its loop told the seat an answer. That is a list, for whose copy there was no memory, and the
+-- transcript is as it was
+pub record KeepsNoList (call : Call) (s t : Sitting) : Type 0 where
+  pub answer : Answer
+  pub list : is_list answer.reply ≡ true
+  pub told : IsAnswered s (Ok (IsAnswer answer)) t
+  pub kept : t ≡ record s { asked = s.asked ++ event.Call call ∷ []; seen = t.seen }
+
+-- that comes of calls alone
+abbrev pub IsUncopied : Event → Sitting → Sitting → Type 0
+IsUncopied (event.Call call) s t = KeepsNoList call s t
+IsUncopied _ s t = ⊥
+
+-- Why an event has no answer. Memory was refused before anything was asked, or to the copy of a reply; and a seat that was made isn't
+-- refused for want of seats
+abbrev pub Unanswered : SeatFault → Event → Sitting → Sitting → Type 0
+Unanswered Memory e s t = IsUnasked e s t ⊎ IsUncopied e s t
+Unanswered SeatsSpent e s t = ⊥
+Unanswered fault e s t = IsRefused fault e s t
 
 -- an event that has no answer is done: its node's loop told the seat that it came to this, and it stands last in the transcript
 pub record Done (e : Event) (effect : Effect) (s t : Sitting) : Type 0 where

@@ -1,9 +1,10 @@
 //! What a caller asks its node for: calls, exits and leaves.
-ghost use Rattle.std.specs.Prelude.{◌≡◌, ◌++◌, ◌∷◌, [], IfOk, OnOk, IfErr, Ok};
+ghost use Rattle.std.specs.Prelude.{◌≡◌, ◌++◌, ◌∷◌, [], false, IfOk, OnOk, IfErr, Ok, Err};
 ghost use Rattle.shared_table.specs.Events.{knows_contact as knows};
 ghost use Rattle.shared_table.specs.declared.Event.TheVariants.{Call as Calls, Exit, Leave};
 ghost use Rattle.shared_table.specs.declared.Effect.TheVariants.{Answered, Made, Left};
 ghost use Rattle.node_seats.specs.Callers.{name_of, inbox_of, place_of, nodes_of, asked_by, seen_of, told_of, ticket_of, task_for, Puts, Learns};
+ghost use Rattle.node_seats.specs.declared.fault.SeatFault.TheVariants.{NoSuchNode};
 ghost use Rattle.node_seats.specs.Faults.{IsAskRefused, MayAsk};
 ghost use Rattle.node_seats.specs.Replies.{IsToldTo, IsFaultTold, HasLeft};
 
@@ -27,6 +28,7 @@ impl Caller {
         ensures node { name_of self.new ≡ name_of self.old }
         ensures inbox { inbox_of self.new ≡ inbox_of self.old }
         ensures nodes { nodes_of self.new ≡ nodes_of self.old }
+        ensures stranger { knows (nodes_of self.old) (Calls call) ≡ false → result ≡ Err NoSuchNode }
         ensures known { IfErr result (λ fault. IsAskRefused fault (knows (nodes_of self.old) (Calls call))) }
         ensures asked { OnOk result (asked_by self.new ≡ asked_by self.old ++ Calls call ∷ []) }
         ensures unanswered { IfErr result (λ fault. MayAsk fault (Calls call) (asked_by self.old) (asked_by self.new)) }

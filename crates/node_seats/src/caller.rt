@@ -1,10 +1,11 @@
 //! How a thread asks a node's thread.
 ghost use Rattle.std.specs.Prelude.{◌≡◌, ◌<◌, ◌≤◌, ◌+◌, ◌++◌, ◌∷◌, ◌⊎◌, [], true, false, IfOk, OnOk, OnErr, IfErr, IfSome, Ok, Err};
 ghost use Rattle.shared_table.specs.Events.{knows_contact as knows};
+ghost use Rattle.shared_table.specs.declared.Event.TheVariants.{Call as Calls};
 ghost use Rattle.node_seats.specs.Addresses.{inbox_at};
 ghost use Rattle.node_seats.specs.Callers.{name_of, inbox_of, place_of, nodes_of, nodes_at, asked_by, seen_of, told_of, unseen, ticket_of, task_for, told_as, Numbers, Puts, Offers, IsEnd, MayPut, Learns};
 ghost use Rattle.node_seats.specs.declared.fault.SeatFault.TheVariants.{NoSuchNode};
-ghost use Rattle.node_seats.specs.Faults.{IsAskRefused, MayAsk};
+ghost use Rattle.node_seats.specs.Faults.{IsAskRefused, MayAsk, IsUnmade, unmade};
 ghost use Rattle.node_seats.specs.Replies.{IsToldTo, IsFaultTold};
 ghost use Rattle.node_seats.specs.Seats.{Looked};
 
@@ -17,7 +18,7 @@ use crate::line::Line;
 use crate::place::Place;
 use crate::standing::Standing;
 use crate::told::NodeStatus;
-use shared_table::{Effect, Event, Item, Lookup, TableReader, Task, TaskFault, Ticket};
+use shared_table::{Call, Effect, Event, Item, Lookup, TableReader, Task, TaskFault, Ticket};
 use std::alloc::{AllocError, Global};
 use std::sync::{Arc, Wait};
 use std::time::Clock;
@@ -48,6 +49,16 @@ fn known_outcome(outcome: Result<Effect, SeatFault>) -> Result<Effect, SeatFault
     match outcome {
         Err(SeatFault::NoSuchNode) => Err(SeatFault::Closed),
         told => told,
+    }
+}
+
+/// Why nothing is asked for what there is no memory to make: what the caller has against it comes first.
+fn unmade(cause: Option<SeatFault>) -> SeatFault
+    ensures { result ≡ unmade cause }
+{
+    match cause {
+        Some(cause) => cause,
+        None => SeatFault::Memory,
     }
 }
 
@@ -218,12 +229,38 @@ impl Caller {
         ensures node { IfOk result (λ status. status.node ≡ name_of self.now) }
         ensures ended { IfErr result IsEnd }
     {
-        if self.standing.has_left() {
-            return Err(SeatFault::NodeLeft);
-        }
-        match self.end() {
+        match self.refusal() {
             Some(fault) => Err(fault),
             None => Ok(self.standing.status(&self.node, self.hub.nodes())),
+        }
+    }
+
+    /// Whether the contact of a call is of the cluster, if it has one.
+    fn knows(&self, call: &Call) -> bool
+        ensures { result ≡ knows (nodes_of self.now) (Calls call.now) }
+    {
+        match call {
+            Call::Join(contact) => self.hub.nodes().reaches(contact),
+            _ => true,
+        }
+    }
+
+    /// Why an event isn't asked for that there was no memory to make, where its contact is of the cluster, if it has one: no reply comes
+    /// any more, or else memory alone was refused.
+    pub(crate) fn unmade(&self) -> SeatFault
+        ensures { IsUnmade result true }
+    {
+        unmade(self.refusal())
+    }
+
+    /// The same of a call, whose contact may be a stranger.
+    pub(crate) fn unmade_call(&self, call: &Call) -> SeatFault
+        ensures { IsUnmade result (knows (nodes_of self.now) (Calls call.now)) }
+    {
+        if self.knows(call) {
+            self.unmade()
+        } else {
+            SeatFault::NoSuchNode
         }
     }
 
@@ -231,6 +268,16 @@ impl Caller {
     pub fn stop(&self) {
         self.hub.end();
         self.line.ring();
+    }
+
+    /// Why the node is asked for nothing any more: it has left, also where its thread goes on, or no reply comes any more.
+    fn refusal(&self) -> Option<SeatFault>
+        ensures { IfSome result IsEnd }
+    {
+        if self.standing.has_left() {
+            return Some(SeatFault::NodeLeft);
+        }
+        self.end()
     }
 
     /// Why no reply comes any more, if none does.

@@ -25,7 +25,8 @@ pub enum SeatFault {
     /// The node refused the event.
     #[error("{0}")]
     Step(StepFault),
-    /// Memory was refused: before anything was asked, or for the copy of a reply that is a list of names or notices.
+    /// Memory was refused: before anything was asked, and nothing else stood against it, or for the copy of a reply that is a list of
+    /// names or notices.
     #[error("memory")]
     Memory,
 }

@@ -1,6 +1,7 @@
 //! Seats of lock holders, over a seat at a node.
-ghost use Rattle.std.specs.Prelude.{◌≡◌};
+ghost use Rattle.std.specs.Prelude.{◌≡◌, true, IfOk, IfErr};
 ghost use Rattle.shared_table.specs.NodeEventsSeen.{reply_of};
+ghost use Rattle.node_seats.specs.Faults.{IsUnmade};
 ghost use Rattle.node_seats.specs.Holders.{grants};
 
 use crate::fault::SeatFault;
@@ -16,6 +17,17 @@ fn is_granted(reply: &Reply) -> bool
     ensures { result ≡ grants (reply_of reply.now) }
 {
     matches!(reply, Reply::True)
+}
+
+/// The same nodes, for a call from this seat. Where there is no memory for them, what the seat has against the call comes first.
+fn copied(nodes: &Nodes, seat: &Seat) -> Result<Nodes, SeatFault>
+    ensures copy { IfOk result (λ copy. copy ≡ nodes.now) }
+    ensures unmade { IfErr result (λ fault. IsUnmade fault true) }
+{
+    match nodes.copy() {
+        Ok(copy) => Ok(copy),
+        Err(_) => Err(seat.unmade()),
+    }
 }
 
 /// The seat of one lock holder over a seat at a node: its calls are the seat's, and wait as those do.
@@ -61,13 +73,15 @@ impl<'a, R: Wait + Clock> LockSeat for HolderSeat<'a, R> {
         nodes: &Nodes,
         retries: Retries,
     ) -> Result<bool, SeatFault> {
-        let call = Call::SetLock(self.holder.copy(), id.copy(), nodes.copy()?, retries);
+        let nodes = copied(nodes, self.seat)?;
+        let call = Call::SetLock(self.holder.copy(), id.copy(), nodes, retries);
         let reply = self.seat.call(self.rt, call)?;
         Ok(is_granted(&reply))
     }
 
     fn del_lock(&mut self, id: &LockId, nodes: &Nodes) -> Result<(), SeatFault> {
-        let call = Call::DelLock(self.holder.copy(), id.copy(), nodes.copy()?);
+        let nodes = copied(nodes, self.seat)?;
+        let call = Call::DelLock(self.holder.copy(), id.copy(), nodes);
         self.seat.call(self.rt, call)?;
         Ok(())
     }

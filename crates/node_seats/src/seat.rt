@@ -1,13 +1,14 @@
 //! Seats: from each, one caller calls one node.
-ghost use Rattle.std.specs.Prelude.{◌≡◌, [], OnOk, IfOk, IfErr};
+ghost use Rattle.std.specs.Prelude.{◌≡◌, [], true, false, OnOk, IfOk, IfErr, Err};
 ghost use Rattle.shared_table.specs.Events.{knows_contact as knows};
 ghost use Rattle.shared_table.specs.declared.Event.TheVariants.{Exit, Leave, Call as Calls};
 ghost use Rattle.shared_table.specs.declared.WorldEvent.TheVariants.{At};
 ghost use Rattle.shared_table.specs.declared.Effect.TheVariants.{Made, Left};
 ghost use Rattle.node_seats.specs.Seats.{sitting, Answered, Unanswered, Done, LooksUp};
 ghost use Rattle.node_seats.specs.Replies.{HasLeft};
-ghost use Rattle.node_seats.specs.Callers.{IsEnd};
-ghost use Rattle.node_seats.specs.Faults.{IsAskRefused};
+ghost use Rattle.node_seats.specs.declared.fault.SeatFault.TheVariants.{NoSuchNode};
+ghost use Rattle.node_seats.specs.Callers.{nodes_of, IsEnd};
+ghost use Rattle.node_seats.specs.Faults.{IsAskRefused, IsUnmade};
 
 use crate::beside::{Beside, Nobody};
 use crate::caller::Caller;
@@ -16,7 +17,7 @@ use crate::fault::SeatFault;
 use crate::notes::{KeptNotes, Notes};
 use crate::told::NodeStatus;
 use shared_table::{Call, Event, Reply, SeatEntry, Transcript, WorldEvent};
-use std::alloc::Global;
+use std::alloc::{AllocError, Global};
 use std::marker::Model;
 use std::sync::Wait;
 use std::time::Clock;
@@ -37,6 +38,42 @@ impl<T: Notes> Model for Seat<T> {
     ghost Value = { Sitting };
 
     ghost view = { λ s. sitting s.caller (T.noted s.notes) };
+}
+
+/// The copy of a call, and room for its entry in these notes.
+fn copied<T: Notes>(notes: &mut T, call: &Call) -> Result<Call, AllocError>
+    ensures copy { IfOk result (λ copy. copy ≡ call.now) }
+    ensures same { T.noted notes.new ≡ T.noted notes.old }
+    ensures room { OnOk result (T.has_room notes.new ≡ true) }
+{
+    notes.reserve()?;
+    copied_call(call)
+}
+
+/// The copy of a call that a seat's transcript is to have, and room for it there. Where there is no memory for these, what the seat's
+/// caller has against the call comes first.
+fn prepared<T: Notes>(notes: &mut T, caller: &Caller, call: &Call) -> Result<Call, SeatFault>
+    ensures copy { IfOk result (λ copy. copy ≡ call.now) }
+    ensures same { T.noted notes.new ≡ T.noted notes.old }
+    ensures room { OnOk result (T.has_room notes.new ≡ true) }
+    ensures unmade { IfErr result (λ fault. IsUnmade fault (knows (nodes_of caller.now) (Calls call.now))) }
+{
+    match copied(notes, call) {
+        Ok(copy) => Ok(copy),
+        Err(_) => Err(caller.unmade_call(call)),
+    }
+}
+
+/// Makes room for the entry of an exit or of a leave. Where there is no memory for it, what the seat's caller has against it comes first.
+fn make_room<T: Notes>(notes: &mut T, caller: &Caller) -> Result<(), SeatFault>
+    ensures same { T.noted notes.new ≡ T.noted notes.old }
+    ensures room { OnOk result (T.has_room notes.new ≡ true) }
+    ensures unmade { IfErr result (λ fault. IsUnmade fault true) }
+{
+    match notes.reserve() {
+        Ok(()) => Ok(()),
+        Err(_) => Err(caller.unmade()),
+    }
 }
 
 impl<T: Notes> Seat<T> {
@@ -72,12 +109,13 @@ impl<T: Notes> Seat<T> {
     }
 
     /// Calls the node, once, and waits for the reply, which the node's loop told this seat. The call and its answer then stand last in
-    /// the transcript, which nothing else changes. `Memory`: nothing was asked, or it was and the reply is a list of names or
-    /// notices. `NodeLeft`: the node has left. `NoSuchNode`: the contact of a join isn't of the cluster. `Step`: the node refuses the call.
+    /// the transcript, which nothing else changes. `Memory`: nothing was asked, and the seat has nothing else against the call; or it was
+    /// asked, and the reply is a list of names or notices. `NodeLeft`: the node has left. `NoSuchNode`: the contact of a join isn't of the cluster. `Step`: the node refuses the call.
     /// `Closed`: the node's thread ended without a leave, or the cluster was closed; whether the call was made then isn't known.
     pub fn call<R: Wait + Clock>(&mut self, rt: &R, call: Call) -> Result<Reply, SeatFault>
         ensures ok { IfOk result (λ reply. Answered call reply self.old self.new) }
         ensures err { IfErr result (λ fault. Unanswered fault (Calls call) self.old self.new) }
+        ensures stranger { knows self.old.nodes (Calls call) ≡ false → result ≡ Err NoSuchNode }
         ensures known { IfErr result (λ fault. IsAskRefused fault (knows self.old.nodes (Calls call))) }
     {
         self.call_beside(rt, call, &Nobody)
@@ -94,10 +132,11 @@ impl<T: Notes> Seat<T> {
     ) -> Result<Reply, SeatFault>
         ensures ok { IfOk result (λ reply. Answered call reply self.old self.new) }
         ensures err { IfErr result (λ fault. Unanswered fault (Calls call) self.old self.new) }
+        ensures stranger { knows self.old.nodes (Calls call) ≡ false → result ≡ Err NoSuchNode }
         ensures known { IfErr result (λ fault. IsAskRefused fault (knows self.old.nodes (Calls call))) }
     {
-        let event = self.event(Event::Call(copied_call(&call)?));
-        self.notes.reserve()?;
+        let noted = prepared(&mut self.notes, &self.caller, &call)?;
+        let event = self.event(Event::Call(noted));
         let answer = self.caller.call(rt, call, beside)?;
         let reply = answer.reply.copy()?;
         let answer = Some(answer);
@@ -131,7 +170,7 @@ impl<T: Notes> Seat<T> {
         ensures ok { OnOk result (Done (Exit process.now) Made self.old self.new) }
         ensures err { IfErr result (λ fault. Unanswered fault (Exit process.now) self.old self.new) }
     {
-        self.notes.reserve()?;
+        make_room(&mut self.notes, &self.caller)?;
         self.caller.exit(rt, process)?;
         let event = self.event(Event::Exit(process.copy()));
         let answer = None;
@@ -146,12 +185,19 @@ impl<T: Notes> Seat<T> {
         ensures left { OnOk result (HasLeft self.old.node) }
         ensures err { IfErr result (λ fault. Unanswered fault Leave self.old self.new) }
     {
-        self.notes.reserve()?;
+        make_room(&mut self.notes, &self.caller)?;
         self.caller.leave(rt)?;
         let event = self.event(Event::Leave);
         let answer = None;
         self.notes.put(SeatEntry { event, answer });
         Ok(())
+    }
+
+    /// Why an event without a contact isn't asked for that there was no memory to make.
+    pub(crate) fn unmade(&self) -> SeatFault
+        ensures { IsUnmade result true }
+    {
+        self.caller.unmade()
     }
 
     /// An event of the seat's node.

@@ -12,11 +12,11 @@ use Rattle.node_seats.proofs.holder.HolderSeatLockSeat.del_lock.Goals as goal
 
 pub returns : goal.returns
 returns g c =
-    let call : DelLock c.copy.result c.copy-2.result c.in_ok-copy.field-0
+    let call : DelLock c.copy.result c.copy-2.result c.in_ok-nodes.nodes
     ≡ DelLock c.args.self.now.holder c.args.id.now c.args.nodes.now =
-    ap (λ (p : Process). DelLock p c.copy-2.result c.in_ok-copy.field-0) c.copy.ensures
-    ∙ ap (λ (i : LockId). DelLock c.args.self.now.holder i c.in_ok-copy.field-0) c.copy-2.ensures
-    ∙ ap (λ (ns : Nodes). DelLock c.args.self.now.holder c.args.id.now ns) c.in_ok-copy.ensures.copy in
+    ap (λ (p : Process). DelLock p c.copy-2.result c.in_ok-nodes.nodes) c.copy.ensures
+    ∙ ap (λ (i : LockId). DelLock c.args.self.now.holder i c.in_ok-nodes.nodes) c.copy-2.ensures
+    ∙ ap (λ (ns : Nodes). DelLock c.args.self.now.holder c.args.id.now ns) c.in_ok-nodes.ensures.copy in
     let answered : Answered (DelLock c.args.self.now.holder c.args.id.now c.args.nodes.now) c.in_ok-call.field-0 c.args.self.now.seat.now c.call.new.self =
     subst (λ (k : Call). Answered k c.in_ok-call.field-0 c.args.self.now.seat.now c.call.new.self) call c.in_ok-call.ensures.ok in (
       record {

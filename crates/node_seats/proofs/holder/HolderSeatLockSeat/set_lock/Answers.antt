@@ -12,11 +12,11 @@ use Rattle.node_seats.proofs.holder.HolderSeatLockSeat.set_lock.Goals as goal
 
 pub returns : goal.returns
 returns g c =
-    let call : SetLock c.copy.result c.copy-2.result c.in_ok-copy.field-0 c.args.retries
+    let call : SetLock c.copy.result c.copy-2.result c.in_ok-nodes.nodes c.args.retries
     ≡ SetLock c.args.self.now.holder c.args.id.now c.args.nodes.now c.args.retries =
-    ap (λ (p : Process). SetLock p c.copy-2.result c.in_ok-copy.field-0 c.args.retries) c.copy.ensures
-    ∙ ap (λ (i : LockId). SetLock c.args.self.now.holder i c.in_ok-copy.field-0 c.args.retries) c.copy-2.ensures
-    ∙ ap (λ (ns : Nodes). SetLock c.args.self.now.holder c.args.id.now ns c.args.retries) c.in_ok-copy.ensures.copy in
+    ap (λ (p : Process). SetLock p c.copy-2.result c.in_ok-nodes.nodes c.args.retries) c.copy.ensures
+    ∙ ap (λ (i : LockId). SetLock c.args.self.now.holder i c.in_ok-nodes.nodes c.args.retries) c.copy-2.ensures
+    ∙ ap (λ (ns : Nodes). SetLock c.args.self.now.holder c.args.id.now ns c.args.retries) c.in_ok-nodes.ensures.copy in
     let answered : Answered (SetLock c.args.self.now.holder c.args.id.now c.args.nodes.now c.args.retries) c.in_ok-reply.reply c.args.self.now.seat.now c.call.new.self =
     subst (λ (k : Call). Answered k c.in_ok-reply.reply c.args.self.now.seat.now c.call.new.self) call c.in_ok-reply.ensures.ok in
     let granted : grants (reply_of answered.answer.reply) ≡ c.is_granted.result = ap grants answered.says ∙ sym c.is_granted.ensures in (

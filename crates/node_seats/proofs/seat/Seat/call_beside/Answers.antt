@@ -4,7 +4,6 @@ use Rattle.shared_table.specs.declared.Event.TheVariants.{Call as Calls}
 use Rattle.shared_table.specs.declared.WorldEvent.TheVariants.{At}
 use Rattle.shared_table.specs.declared.SeatEntry.{SeatEntry}
 use Rattle.shared_table.specs.declared.Effect.TheVariants.{Answered as IsAnswer}
-use Rattle.node_seats.specs.Seats.{Sitting}
 use Rattle.node_seats.proofs.Sittings.{answered_so, grown}
 use Rattle.node_seats.proofs.seat.Seat.call_beside.Goals as goal
 
@@ -18,9 +17,9 @@ returns-clause-ok g c = record {
   kept = grown c.self.inside.caller (g.T.Notes.noted c.self.inside.notes) c.args.self.now c.self.view_is c.call.new.self
       (g.T.Notes.noted c.put.new.self) (Calls c.args.call) c.event-event.result (Some c.in_ok-answer.answer)
       c.in_ok-answer.ensures.place c.in_ok-answer.ensures.inbox c.in_ok-answer.ensures.nodes c.in_ok-answer.ensures.asked
-      (c.event-event.ensures ∙ ap (λ (s : Sitting). At s.node (Calls c.in_ok-copied_call.field-0)) (sym c.self.view_is)
-      ∙ ap (λ (k : Call). At c.self.inside.caller.node (Calls k)) c.in_ok-copied_call.ensures)
+      (c.event-event.ensures
+      ∙ ap (λ (k : Call). At c.self.inside.caller.node (Calls k)) c.in_ok-noted.ensures.copy)
       (c.put.ensures
       ∙ ap (λ (l : List SeatEntry). l ++ record { event = c.event-event.result; answer = Some c.in_ok-answer.answer } ∷ [])
-      c.reserve.ensures.same);
+      c.prepared.ensures.same);
 }

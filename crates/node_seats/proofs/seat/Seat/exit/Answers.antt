@@ -18,5 +18,5 @@ returns-clause-ok g c = record {
       (c.event-event.ensures ∙ ap (λ (n : ℕ). At n (Exit c.copy.result)) c.in_ok-exit.ensures.node
       ∙ ap (λ (p : Process). At c.self.inside.caller.node (Exit p)) c.copy.ensures)
       (c.put.ensures ∙ ap (λ (l : List SeatEntry). l ++ record { event = c.event-event.result; answer = None } ∷ [])
-      c.reserve.ensures.same);
+      c.make_room.ensures.same);
 }

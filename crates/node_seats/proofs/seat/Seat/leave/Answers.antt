@@ -16,5 +16,5 @@ returns-clause-ok g c = record {
       c.in_ok-leave.ensures.nodes c.in_ok-leave.ensures.asked
       (c.event-event.ensures ∙ ap (λ (n : ℕ). At n Leave) c.in_ok-leave.ensures.node)
       (c.put.ensures ∙ ap (λ (l : List SeatEntry). l ++ record { event = c.event-event.result; answer = None } ∷ [])
-      c.reserve.ensures.same);
+      c.make_room.ensures.same);
 }
