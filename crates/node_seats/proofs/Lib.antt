@@ -5,4 +5,5 @@ mod Coming
 mod Leaving
 mod Sittings
 pub mod Telling
+mod ShownLengths
 mod Noting

@@ -13,8 +13,10 @@ use Rattle.node_seats.specs.declared.fault.SeatFault.{SeatFault}
 use Rattle.node_seats.specs.declared.fault.SeatFault.TheVariants.{NoSuchNode, NodeLeft, Closed, SeatsSpent, Step, Memory}
 use Rattle.node_seats.specs.Addresses.{Inbox}
 use Rattle.shared_table.specs.Readers.{Seen}
-use Rattle.node_seats.specs.Callers.{inbox_of, place_of, nodes_of, asked_by, name_of, ticket_of, seen_of, told_of, told_as, Learns}
+use Rattle.shared_table.specs.Editions.{HasShown}
+use Rattle.node_seats.specs.Callers.{inbox_of, place_of, nodes_of, asked_by, name_of, ticket_of, seen_of, told_of, Learns}
 use Rattle.node_seats.specs.Replies.{IsToldTo}
+use Rattle.node_seats.specs.Faults.{told_as}
 use Rattle.node_seats.specs.Seats.{Sitting, sitting, IsAnswered, with_entry}
 
 abbrev sits : Place → Inbox → List ℕ → List Event → Seen → List SeatEntry → Sitting
@@ -23,9 +25,14 @@ sits place inbox nodes asked seen es = record { seat = place.seat; slot = place.
 -- what its caller is told, the seat is answered
 module _ (c : Caller) (es : List SeatEntry) (s : Sitting) (is : sitting c es ≡ s) where
   pub answered_so : (d : Caller) (fs : List SeatEntry) (outcome : Result Effect TaskFault)
-      → IsToldTo (name_of c) (ticket_of c) outcome (told_of d) → Learns (seen_of c) (seen_of d) → IsAnswered s outcome (sitting d fs)
-  answered_so d fs outcome told learns =
-      subst (λ (x : Sitting). IsAnswered x outcome (sitting d fs)) is (record { number = c.next; told = told; learns = learns })
+      → name_of d ≡ name_of c → IsToldTo (name_of c) (ticket_of c) outcome (told_of d) → Learns (seen_of c) (seen_of d)
+      → IsAnswered s outcome (sitting d fs)
+  answered_so d fs outcome node told learns = subst (λ (x : Sitting). IsAnswered x outcome (sitting d fs)) is (record {
+    number = c.next;
+    told = told;
+    learns = learns;
+    shown = subst (λ (n : ℕ). HasShown n (told_of d)) node d.shown;
+  })
 
   -- it asked for an event, and has an entry more
   pub grown : (d : Caller) (fs : List SeatEntry) (e : Event) (w : WorldEvent) (answer : Option Answer) → place_of d ≡ place_of c

@@ -1,5 +1,5 @@
 -- What contracts see of a caller, and of the hub that it shares.
-use Rattle.std.specs.Prelude.{ℕ, ◌+◌, ◌-◌, ◌^◌, ◌≡◌, ◌≤◌, ◌⊎◌, Option, Some, None, Result, Ok, Err, List, [], ◌∷◌}
+use Rattle.std.specs.Prelude.{ℕ, ◌+◌, ◌-◌, ◌^◌, ◌≡◌, ◌≤◌, ◌⊎◌, Option, Some, None, List, [], ◌∷◌}
 use Rattle.std.specs.List.{flat_map}
 use Rattle.shared_table.specs.declared.Event.{Event}
 use Rattle.shared_table.specs.declared.Ticket.{Ticket}
@@ -102,9 +102,3 @@ MayPut (Step fault) i c d = Puts i c d
 MayPut NodeLeft i c d = (d.line ≡ c.line) ⊎ Puts i c d
 MayPut Closed i c d = (d.line ≡ c.line) ⊎ Puts i c d
 MayPut _ i c d = ⊥
-
--- what its caller is told: a node has the nodes of its cluster, and calls none of them a stranger
-abbrev pub told_as : {A : Type 0} → Result A SeatFault → Result A SeatFault
-told_as (Ok a) = Ok a
-told_as (Err NoSuchNode) = Err Closed
-told_as (Err fault) = Err fault

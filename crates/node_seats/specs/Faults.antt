@@ -1,5 +1,5 @@
 -- Why a seat isn't made, or what it asks isn't done.
-use Rattle.std.specs.Prelude.{Bool, true, false, ◌≡◌, ◌⊎◌, Option, Some, None, List, [], ◌∷◌, ◌++◌}
+use Rattle.std.specs.Prelude.{Bool, true, false, ◌≡◌, ◌⊎◌, Option, Some, None, Result, Ok, Err, List, [], ◌∷◌, ◌++◌}
 use Rattle.shared_table.specs.declared.Event.{Event}
 use Rattle.shared_table.specs.declared.TaskFault.{TaskFault}
 use Rattle.shared_table.specs.declared.TaskFault.TheVariants as of_task
@@ -11,6 +11,12 @@ abbrev pub fault_by : TaskFault → SeatFault
 fault_by of_task.NoSuchNode = NoSuchNode
 fault_by of_task.NodeLeft = NodeLeft
 fault_by (of_task.Step fault) = Step fault
+
+-- what a caller is told: a node has the nodes of its cluster, and calls none of them a stranger
+abbrev pub told_as : {A : Type 0} → Result A SeatFault → Result A SeatFault
+told_as (Ok a) = Ok a
+told_as (Err NoSuchNode) = Err Closed
+told_as (Err fault) = Err fault
 
 -- why it isn't done what is asked: a contact is called a stranger only where it isn't known
 abbrev pub IsAskRefused : SeatFault → Bool → Type 0

@@ -25,6 +25,7 @@ use Rattle.shared_table.specs.declared.TaskFault.{TaskFault}
 use Rattle.shared_table.specs.declared.TaskFault.TheVariants as task
 use Rattle.node_seats.specs.Addresses.{Inbox}
 use Rattle.shared_table.specs.declared.reader.Lookup.TheVariants.{Owner, Left as IsLeft}
+use Rattle.shared_table.specs.Editions.{HasShown}
 use Rattle.shared_table.specs.Rule.{StartsWith}
 use Rattle.shared_table.specs.Readers.{Seen, Finds}
 use Rattle.node_seats.specs.Callers.{name_of, place_of, nodes_of, asked_by, seen_of, unseen, Learns}
@@ -88,11 +89,12 @@ with_entry e answer s = record s {
 }
 
 -- The loop of the seat's node told the seat so, for something that it asked. What the node then showed its readers is behind no more of its
--- log than the seat t was told of
+-- log than the seat t was told of, and behind a log of that length it has shown an edition of its table
 pub record IsAnswered (s : Sitting) (outcome : Result Effect TaskFault) (t : Sitting) : Type 0 where
   pub number : ℕ
   pub told : IsToldTo s.node (record { seat = s.seat; slot = s.slot; number = number }) outcome t.seen.told
   pub learns : Learns s.seen t.seen
+  pub shown : HasShown s.node t.seen.told
 
 -- a refusal by the node is its loop's
 abbrev pub IsToldFault : Sitting → SeatFault → Sitting → Type 0

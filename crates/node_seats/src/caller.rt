@@ -1,13 +1,12 @@
 //! How a thread asks a node's thread.
 ghost use Rattle.std.specs.Prelude.{◌≡◌, ◌<◌, ◌≤◌, ◌+◌, ◌++◌, ◌∷◌, ◌⊎◌, [], true, false, IfOk, OnOk, OnErr, IfErr, IfSome, Ok, Err};
+ghost use Rattle.shared_table.specs.Editions.{HasShown};
 ghost use Rattle.shared_table.specs.Events.{knows_contact as knows};
 ghost use Rattle.shared_table.specs.declared.Event.TheVariants.{Call as Calls};
 ghost use Rattle.node_seats.specs.Addresses.{inbox_at};
-ghost use Rattle.node_seats.specs.Callers.{name_of, inbox_of, place_of, nodes_of, nodes_at, asked_by, seen_of, told_of, unseen, ticket_of, task_for, told_as, Numbers, Puts, Offers, IsEnd, MayPut, Learns};
 ghost use Rattle.node_seats.specs.declared.fault.SeatFault.TheVariants.{NoSuchNode};
-ghost use Rattle.node_seats.specs.Faults.{IsAskRefused, MayAsk, IsUnmade, unmade};
+ghost use Rattle.node_seats.specs.Faults.{told_as, IsAskRefused, MayAsk, IsUnmade, unmade};
 ghost use Rattle.node_seats.specs.Replies.{IsToldTo, IsFaultTold};
-ghost use Rattle.node_seats.specs.Seats.{Looked};
 
 use crate::address::Address;
 use crate::bell::Rest;
@@ -37,8 +36,10 @@ pub struct Caller {
     next: u64,
     hub: Arc<Hub, Global>,
     standing: Arc<Standing, Global>,
+    /// It was told of a length only behind which the node had shown its table.
     reader: TableReader,
     rest: Rest,
+    ghost shown: { HasShown node reader.told },
 }
 
 /// What a caller is told of an event whose contact is of the cluster. Its node has the same nodes, and calls none of them a stranger.
@@ -63,6 +64,9 @@ fn unmade(cause: Option<SeatFault>) -> SeatFault
 }
 
 impl Caller {
+    ghost use Rattle.node_seats.specs.Callers.{name_of, inbox_of, place_of, nodes_of, nodes_at, asked_by, seen_of, told_of, unseen, ticket_of, task_for, Numbers, Puts, Offers, IsEnd, MayPut, Learns};
+    ghost use Rattle.node_seats.specs.Seats.{Looked};
+
     /// One that asks the node of this address, which stands so, and finds its replies in the slot of this place.
     pub(crate) fn new(
         hub: &Arc<Hub, Global>,
@@ -218,8 +222,9 @@ impl Caller {
         match self.reader.whereis(&self.node, name) {
             Lookup::Owner(owner) => Ok(owner),
             Lookup::Left => Err(SeatFault::NodeLeft),
-            // No thread tells of what it hasn't published, so no table is behind what was told.
-            Lookup::Behind | Lookup::Gone => Err(SeatFault::Closed),
+            // No thread tells of what it hasn't published, and the reader is at the node's own table: so that is never behind what was
+            // told, nor another's.
+            Lookup::Behind | Lookup::Stranger | Lookup::Gone => Err(SeatFault::Closed),
         }
     }
 
@@ -340,8 +345,9 @@ impl Caller {
         unreachable!()
     }
 
-    /// Takes a reply up, if one lies there: what it says of a ticket. A reply to another, which this caller has given up, is dropped. The
-    /// node's readers were shown all that it had shown then, and so the table is read from there on.
+    /// Takes a reply up, if one lies there: what it says of a ticket. The node's readers were shown all that it had shown then, and so the
+    /// table is read from there on. A reply to another, which this caller or an earlier one with its slot has given up, is dropped: it may
+    /// be of another node, and tells nothing of this one's table.
     fn take_up<R: Wait>(&mut self, rt: &R, ticket: Ticket) -> Option<Result<Effect, TaskFault>>
         ensures place { place_of self.new ≡ place_of self.old }
         ensures node { name_of self.new ≡ name_of self.old }
@@ -352,8 +358,10 @@ impl Caller {
         ensures learns { Learns (seen_of self.old) (seen_of self.new) }
     {
         let reply = self.hub.take(rt, self.place.slot)?;
-        self.reader.learn(reply.length());
-        reply.outcome(&self.node, ticket)
+        let length = reply.length();
+        let outcome = reply.outcome(&self.node, ticket)?;
+        self.reader.learn(length);
+        Some(outcome)
     }
 
     /// What came of a ticket, if that is known.

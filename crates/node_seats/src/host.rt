@@ -72,9 +72,8 @@ impl Host {
         ensures came { IsLoopOf node.old.log.node node.new }
         ensures all { node.new ≡ record node.old { desk = record node.old.desk { replies = [] } } }
     {
-        let length = publisher.length();
         for _ in rt.forever() {
-            let Some(reply) = Laid::next(node, length) else {
+            let Some(reply) = Laid::next(node, publisher) else {
                 break;
             };
             self.hub.lay(rt, reply);

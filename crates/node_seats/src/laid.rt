@@ -1,10 +1,13 @@
 //! Replies on their way from a node's thread to a caller.
-ghost use Rattle.std.specs.Prelude.{◌≡◌, ◌≤◌, [], IfSome, MatchOption};
+ghost use Rattle.std.specs.Prelude.{◌≡◌, [], IfSome, MatchOption};
 ghost use Rattle.shared_table.specs.Coming.{IsLoopOf};
+ghost use Rattle.shared_table.specs.Owing.{shown_by};
+ghost use Rattle.shared_table.specs.Editions.{HasShown};
+ghost use Rattle.shared_table.specs.Publishing.{current};
 ghost use Rattle.node_seats.specs.Replies.{IsTold, IsToldTo, is_late};
 
 use name_table::Names;
-use shared_table::{Effect, NodeLoop, Record, TaskFault, TaskReply, Ticket};
+use shared_table::{Effect, NodeLoop, Publisher, Record, TaskFault, TaskReply, Ticket};
 use std::alloc::Global;
 use term::Node;
 
@@ -16,21 +19,24 @@ pub(crate) struct Laid {
     /// The length of the node's log up to which its readers were shown all then.
     length: u64,
     ghost told: { IsTold node reply length },
+    ghost shown: { HasShown node length },
 }
 
 impl Laid {
-    /// The oldest reply of a node's loop, which is taken off its list. Readers were shown all that the node shows, of a log of this length
-    /// or less.
+    /// The oldest reply of a node's loop, which is taken off its list. This publisher has shown readers all that the node shows, and the
+    /// reply tells how long a log is behind that.
     pub(crate) fn next<N: Names<Memory = Global>, L: Record>(
         node: &mut NodeLoop<N, L>,
-        length: u64,
+        publisher: &Publisher,
     ) -> Option<Self>
         requires came { IsLoopOf node.old.log.node node.old }
-        requires shown { node.old.owed.length ≤ length }
+        requires shown { current publisher.now ≡ shown_by node.old }
         ensures came { IsLoopOf node.old.log.node node.new }
         ensures rest { node.new ≡ record node.old { desk = record node.old.desk { replies = node.new.desk.replies } } }
         ensures none { MatchOption result (node.new.desk.replies ≡ []) (λ _. Unit {0}) }
+        ensures length { IfSome result (λ laid. laid.length ≡ (current publisher.now).length) }
     {
+        let length = publisher.shown_length();
         let name = node.node().copy();
         let reply = node.next_reply()?;
         Some(Laid {
@@ -65,7 +71,8 @@ impl Laid {
 
     /// What it says, where this node told it to the owner of this ticket. Any other is one to a call that was given up.
     pub(crate) fn outcome(self, node: &Node, ticket: Ticket) -> Option<Result<Effect, TaskFault>>
-        ensures { IfSome result (λ outcome. IsToldTo node.now ticket outcome self.length) }
+        ensures told { IfSome result (λ outcome. IsToldTo node.now ticket outcome self.length) }
+        ensures shown { IfSome result (λ _. HasShown node.now self.length) }
     {
         let Laid {
             node: teller,

@@ -11,6 +11,7 @@ use Rattle.node_loop.specs.Editions.{opening, updated}
 use Rattle.shared_table.specs.declared.shown.Shown.{Shown}
 use Rattle.shared_table.specs.Editions.{edition_of, latest, latest_from, Rises, IsShown}
 use Rattle.shared_table.specs.Publishing.{Progress, Climbs, IsSound, progress_of, current, next_edition, issued, published}
+use Rattle.shared_table.specs.Readers.{AreAnothers}
 use Rattle.shared_table.specs.Rule.{StartsWith, Keeps, Sees, Issues}
 
 abbrev Row : Type 0
@@ -89,6 +90,19 @@ enters seat v x views h at = (
   ),
   (h.4 seat v at, h.2, h.1, h.3),
 )
+
+-- what is read is the latest edition of the node's table, or of another's
+pub own_read : (node : ℕ) (x : Shown) (w : Row) → edition_of x ≡ latest x.node w → x.node ≡ node → (latest node w).node ≡ node
+own_read node x w is own = sym (ap (λ (e : Edition). e.node) (is ∙ ap (λ (n : ℕ). latest n w) own)) ∙ own
+
+pub anothers_read : (node : ℕ) (x : Shown) (w : Row) → edition_of x ≡ latest x.node w → IsShown (edition_of x) → x.node ≢ node
+    → AreAnothers node w
+anothers_read node x w is shown other = record {
+  other = x.node;
+  another = other;
+  own = sym (ap (λ (e : Edition). e.node) is);
+  shown = subst IsShown is shown;
+}
 
 publishes : (node seat : ℕ) (v : Row) (x next : Shown) → x.node ≡ node → edition_of x ≡ latest node v
     → (latest node v).length < (edition_of next).length → IsShown (edition_of next) → TurnsAt Keeps seat v x next Issues

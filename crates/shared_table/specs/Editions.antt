@@ -33,3 +33,13 @@ pub record Shows (e : Edition) : Type 0 where
 -- such a node has shown this
 abbrev pub IsShown : Edition → Type 0
 IsShown e = ∥ Shows e ∥₁
+
+-- the node of this name has shown an edition of a log of this length
+pub record ShowsOf (name n : ℕ) : Type 0 where
+  pub edition : Edition
+  pub node : edition.node ≡ name
+  pub length : edition.length ≡ n
+  pub shown : IsShown edition
+
+abbrev pub HasShown : ℕ → ℕ → Type 0
+HasShown name n = ∥ ShowsOf name n ∥₁

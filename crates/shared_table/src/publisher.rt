@@ -94,12 +94,11 @@ impl Publisher {
         })
     }
 
-    /// The length of the node's log behind the last update, whether that is published or waits.
-    pub fn length(&self) -> u64
-        ensures is { result ≡ self.now.length }
-        ensures covers { (current self.now).length ≤ result }
+    /// The length of the node's log behind the last update that is published.
+    pub fn shown_length(&self) -> u64
+        ensures { result ≡ (current self.now).length }
     {
-        self.length
+        self.writer.published().length
     }
 
     /// Whether an update waits.

@@ -1,9 +1,9 @@
 //! Who looks names up in a node's table.
-ghost use Rattle.std.specs.Prelude.{◌≡◌, [], true, max, IfOk, IfSome, IfNone};
+ghost use Rattle.std.specs.Prelude.{◌≡◌, [], true, false, max, IfOk, IfSome, IfNone};
 ghost use Rattle.left_right.specs.Sides.{view};
 ghost use Rattle.shared_table.specs.Editions.{latest};
 ghost use Rattle.shared_table.specs.Rule.{StartsWith};
-ghost use Rattle.shared_table.specs.Readers.{Finds, IsFound};
+ghost use Rattle.shared_table.specs.Readers.{Finds, IsFound, AreAnothers};
 
 use crate::rule::{Editions, Enters, Published};
 use crate::shown::Shown;
@@ -34,9 +34,11 @@ pub enum Lookup {
     Owner(Option<Pid>),
     /// The node has left.
     Left,
-    /// The table is older than what the reader was told of, or another node's. A publisher that tells only of what it has published, and
-    /// readers that are asked of their own node, never let it come to that.
+    /// The table is older than what the reader was told of. A publisher that tells only of what it has published never lets it come to
+    /// that.
     Behind,
+    /// The table is another node's. Readers that are asked of their own node never let it come to that.
+    Stranger,
     /// Nothing is published any more.
     Gone,
 }
@@ -75,7 +77,8 @@ struct Entry {
 /// Enters, looks a name up, and leaves. It finds nothing where nothing is published any more.
 fn enter(node: &Node, reader: RuledReader, name: &Name) -> (RuledReader, Option<Entry>)
     ensures later { IfSome result.1 (λ e. StartsWith (view result.0.place) (view reader.place)) }
-    ensures found { IfSome result.1 (λ e. e.own ≡ true → IsFound e name.now (latest node.now (view result.0.place))) }
+    ensures found { IfSome result.1 (λ e. e.own ≡ true → IsFound e node.now name.now (latest node.now (view result.0.place))) }
+    ensures another { IfSome result.1 (λ e. e.own ≡ false → AreAnothers node.now (view result.0.place)) }
     ensures gone { IfNone result.1 (view result.0.place ≡ view reader.place) }
 {
     let reading = match reader.enter_as::<Enters>() {
@@ -126,7 +129,10 @@ impl TableReader {
             return Lookup::Gone;
         };
         // A reader is at the table of one node, and asked of no other; what all readers keep doesn't say so.
-        if !entry.own || entry.length < self.told {
+        if !entry.own {
+            return Lookup::Stranger;
+        }
+        if entry.length < self.told {
             return Lookup::Behind;
         }
         self.told = entry.length;

@@ -12,7 +12,7 @@ returns-clause-ok g c = record {
   answer = c.in_ok-answer.answer;
   told = answered_so c.self.inside.caller (g.T.Notes.noted c.self.inside.notes) c.args.self.now c.self.view_is c.call.new.self
       (g.T.Notes.noted c.put.new.self) (Ok (IsAnswer c.in_ok-answer.answer))
-      c.in_ok-answer.ensures.told c.in_ok-answer.ensures.learns;
+      c.in_ok-answer.ensures.node c.in_ok-answer.ensures.told c.in_ok-answer.ensures.learns;
   says = sym c.in_ok-reply.ensures.copy;
   kept = grown c.self.inside.caller (g.T.Notes.noted c.self.inside.notes) c.args.self.now c.self.view_is c.call.new.self
       (g.T.Notes.noted c.put.new.self) (Calls c.args.call) c.event-event.result (Some c.in_ok-answer.answer)
