@@ -10,6 +10,7 @@ use Rattle.node_seats.specs.declared.fault.SeatFault.{SeatFault}
 use Rattle.node_seats.specs.declared.fault.SeatFault.TheVariants.{NoSuchNode, NodeLeft, Closed, Step}
 use Rattle.node_seats.specs.declared.hub.Hub.{Hub}
 use Rattle.node_seats.specs.declared.place.Place.{Place}
+use Rattle.node_seats.specs.declared.place.TheConstants.{MOST_SEATS}
 use Rattle.shared_table.specs.Readers.{Seen}
 use Rattle.node_seats.specs.Lines.{with_parcel}
 use Rattle.node_seats.specs.Addresses.{Inbox}
@@ -32,7 +33,7 @@ seat_numbers = 2 ^ 32 - 8
 
 -- the place of a cluster's own caller at the node with this index
 abbrev pub own_place : ℕ → Place
-own_place index = record { seat = seat_numbers + index; slot = 64 + index }
+own_place index = record { seat = seat_numbers + index; slot = MOST_SEATS + index }
 
 -- the nodes of a hub's cluster
 abbrev pub nodes_at : Hub → List ℕ

@@ -12,7 +12,7 @@ use crate::address::Address;
 use crate::bell::Rest;
 use crate::beside::Beside;
 use crate::fault::SeatFault;
-use crate::hub::Hub;
+use crate::hub::{Hub, SLOTS};
 use crate::line::Line;
 use crate::place::Place;
 use crate::standing::Standing;
@@ -75,7 +75,7 @@ impl Caller {
         place: Place,
         yields: u32,
     ) -> Result<Self, AllocError>
-        requires { place.slot < 72 }
+        requires { place.slot < SLOTS }
         ensures place { IfOk result (λ caller. place_of caller ≡ place) }
         ensures node { IfOk result (λ caller. name_of caller ≡ address.old.node) }
         ensures nodes { IfOk result (λ caller. nodes_of caller ≡ nodes_at hub.now.value) }
@@ -111,7 +111,7 @@ impl Caller {
         place: Place,
         yields: u32,
     ) -> Result<Self, AllocError>
-        requires { place.slot < 72 }
+        requires { place.slot < SLOTS }
         ensures place { IfOk result (λ caller. place_of caller ≡ place) }
         ensures node { IfOk result (λ caller. name_of caller ≡ address.old.node) }
         ensures nodes { IfOk result (λ caller. nodes_of caller ≡ nodes_at hub.now.value) }

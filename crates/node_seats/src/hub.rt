@@ -1,20 +1,22 @@
 //! What the threads of a cluster share with its seats: its nodes, the replies, and whether the cluster is being closed.
 ghost use Rattle.std.specs.Prelude.{◌≡◌, ◌<◌, vec_len, IfOk};
+ghost use Rattle.node_seats.specs.declared.hub.TheConstants.{SLOTS};
 
 use crate::bell::{Bell, Rest};
 use crate::laid::Laid;
+use crate::place::MOST_SEATS;
 use std::alloc::{AllocError, Global};
 use std::sync::atomic::{AtomicBool, Ordering};
 use std::sync::{Mutex, Wait};
-use term::NodeSet;
+use term::{MOST_NODES, NodeSet};
 
 /// How many slots for replies there are: one for each seat that there is at once, and behind those one for the cluster's own calls at each
 /// node.
-const SLOTS: u32 = 72;
+pub const SLOTS: u32 = MOST_SEATS + MOST_NODES as u32;
 
 /// How many readers a node's table has: one for each seat that there is at once, which may be at any node, and one for the cluster's own
 /// calls.
-pub const MOST_READERS: usize = 65;
+pub const MOST_READERS: usize = MOST_SEATS as usize + 1;
 
 /// Where the reply to one caller is laid. A caller has one call at a time, so one reply has room; and to lay one takes no memory,
 /// so none is ever lost. Seats have a slot one after another, and the number of each is above those before it.
@@ -32,7 +34,7 @@ pub struct Hub {
     closing: AtomicBool,
     over: AtomicBool,
     slots: Vec<Slot>,
-    ghost all: { vec_len slots ≡ 72 },
+    ghost all: { vec_len slots ≡ SLOTS },
 }
 
 impl Slot {
@@ -91,7 +93,7 @@ impl Hub {
 
     /// The rest of the caller with this slot, which its replies end.
     pub(crate) fn rest(&self, slot: u32, yields: u32) -> Result<Rest, AllocError>
-        requires { slot < 72 }
+        requires { slot < SLOTS }
     {
         self.slots[slot as usize].bell.rest(yields)
     }

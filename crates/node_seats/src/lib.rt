@@ -32,7 +32,7 @@ pub use fault::SeatFault;
 pub use free_seat::FreeSeat;
 pub use holder::HolderSeat;
 pub use host::Host;
-pub use hub::{Hub, MOST_READERS};
+pub use hub::{Hub, MOST_READERS, SLOTS};
 pub use line::Line;
 pub use notes::{ForgottenNotes, KeptNotes, Notes};
 pub use opened::{Opened, open_node};

@@ -14,7 +14,7 @@ pub const SEAT_NUMBERS: u32 = 4_294_967_288;
 pub struct Place {
     /// The number of the seat. Seats are numbered from 0 on as they are made.
     pub seat: u32,
-    /// The number of the slot: below 64 that of a seat, and above those one for each of the cluster's own callers.
+    /// The number of the slot: below `MOST_SEATS` that of a seat, and from there on one for each of the cluster's own callers.
     pub slot: u32,
 }
 

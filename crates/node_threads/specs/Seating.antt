@@ -3,18 +3,19 @@ use Rattle.std.specs.Prelude.{ℕ, Bool, true, false, not, nat_lt, ◌||◌, ◌
 use Rattle.std.specs.List.{position_or_len}
 use Rattle.node_seats.specs.Callers.{seat_numbers}
 use Rattle.node_seats.specs.declared.place.Place.{Place}
+use Rattle.node_seats.specs.declared.place.TheConstants.{MOST_SEATS}
 use Rattle.node_threads.specs.declared.seating.Seating.{Seating}
 
 abbrev pub no_seats : Seating
-no_seats = record { taken = replicate 64 false; made = 0 }
+no_seats = record { taken = replicate MOST_SEATS false; made = 0 }
 
--- the first slot that no seat has, or 64
+-- the first slot that no seat has, or how many slots there are for seats
 abbrev pub free_slot : Seating → ℕ
 free_slot s = position_or_len not s.taken
 
 -- no slot is free, or no number is left
 abbrev pub are_spent : Seating → Bool
-are_spent s = not (nat_lt (free_slot s) 64) || not (nat_lt s.made seat_numbers)
+are_spent s = not (nat_lt (free_slot s) MOST_SEATS) || not (nat_lt s.made seat_numbers)
 
 -- where the next seat is
 abbrev pub next_place : Seating → Place

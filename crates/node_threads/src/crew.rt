@@ -13,7 +13,7 @@ use crate::running::{Returned, Running};
 use crate::shared::Shared;
 use name_table::Names;
 use node_loop::{Gate, Item, NodeEnd, Record};
-use node_seats::{FreeSeat, Line, Place};
+use node_seats::{FreeSeat, Line, Place, SLOTS};
 use std::alloc::{AllocError, Global};
 use std::sync::Wait;
 use std::thread::Threads;
@@ -111,7 +111,7 @@ where
     G: Gate + Drop + Send + Sync + 'static,
     N: Names<Memory = Global> + Send + 'static,
     L: Record + Send + 'static,
-    requires { place.slot < 72 }
+    requires { place.slot < SLOTS }
     ensures same { running.new ≡ running.old }
     ensures seats { IfOk result (λ free. free ≡ map (new_seat place (nodes_at shared.now.hub.value)) (inboxes running.old)) }
 {

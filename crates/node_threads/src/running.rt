@@ -16,7 +16,7 @@ use link::Mailbox;
 use name_table::Names;
 use node_loop::{Gate, Item, NodeEnd, NodeLoop, Record, TurnFault};
 use node_seats::{
-    Address, Caller, Host, Hub, KeptPublisher, Line, NodeStatus, Parcel, Place, SeatFault,
+    Address, Caller, Host, Hub, KeptPublisher, Line, NodeStatus, Parcel, Place, SLOTS, SeatFault,
 };
 use std::alloc::{AllocError, Global};
 use std::marker::Model;
@@ -289,7 +289,7 @@ impl<N: Names<Memory = Global> + Send + 'static, L: Record + Send + 'static> Run
         place: Place,
         yields: u32,
     ) -> Result<Caller, AllocError>
-        requires { place.slot < 72 }
+        requires { place.slot < SLOTS }
         ensures place { IfOk result (λ caller. place_of caller ≡ place) }
         ensures asks { IfOk result (λ caller. inbox_of caller ≡ self.old.inbox) }
         ensures nodes { IfOk result (λ caller. nodes_of caller ≡ nodes_at hub.now.value) }
