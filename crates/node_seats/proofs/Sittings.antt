@@ -28,8 +28,8 @@ module _ (c : Caller) (es : List SeatEntry) (s : Sitting) (is : sitting c es ≡
       → name_of d ≡ name_of c → IsToldTo (name_of c) (ticket_of c) outcome (told_of d) → Learns (seen_of c) (seen_of d)
       → IsAnswered s outcome (sitting d fs)
   answered_so d fs outcome node told learns = subst (λ (x : Sitting). IsAnswered x outcome (sitting d fs)) is (record {
-    number = c.next;
-    told = told;
+    told = subst (λ (n : ℕ). IsToldTo (name_of c) (record { seat = c.place.seat; slot = c.place.slot; number = n }) outcome (told_of d))
+        c.counted told;
     learns = learns;
     shown = subst (λ (n : ℕ). HasShown n (told_of d)) node d.shown;
   })

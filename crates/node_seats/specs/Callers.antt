@@ -1,10 +1,9 @@
 -- What contracts see of a caller, and of the hub that it shares.
-use Rattle.std.specs.Prelude.{ℕ, ◌+◌, ◌-◌, ◌^◌, ◌≡◌, ◌≤◌, ◌⊎◌, Option, Some, None, List, [], ◌∷◌}
-use Rattle.std.specs.List.{flat_map}
+use Rattle.std.specs.Prelude.{ℕ, ◌+◌, ◌-◌, ◌^◌, ◌≡◌, ◌≤◌, ◌⊎◌, Option, Some, None, List, []}
 use Rattle.shared_table.specs.declared.Event.{Event}
 use Rattle.shared_table.specs.declared.Ticket.{Ticket}
 use Rattle.shared_table.specs.declared.Item.{Item}
-use Rattle.shared_table.specs.declared.Item.TheVariants.{Letter, Task}
+use Rattle.shared_table.specs.declared.Item.TheVariants.{Task}
 use Rattle.node_seats.specs.declared.caller.Caller.{Caller}
 use Rattle.node_seats.specs.declared.fault.SeatFault.{SeatFault}
 use Rattle.node_seats.specs.declared.fault.SeatFault.TheVariants.{NoSuchNode, NodeLeft, Closed, Step}
@@ -12,7 +11,7 @@ use Rattle.node_seats.specs.declared.hub.Hub.{Hub}
 use Rattle.node_seats.specs.declared.place.Place.{Place}
 use Rattle.node_seats.specs.declared.place.TheConstants.{MOST_SEATS}
 use Rattle.shared_table.specs.Readers.{Seen}
-use Rattle.node_seats.specs.Lines.{with_parcel}
+use Rattle.node_seats.specs.Lines.{with_parcel, events_on}
 use Rattle.node_seats.specs.Addresses.{Inbox}
 
 -- the node that it asks
@@ -60,14 +59,9 @@ pub record Learns (s t : Seen) : Type 0 where
   pub editions : t.editions ≡ s.editions
   pub rises : s.told ≤ t.told
 
--- the event that an item asks for, if it is a task
-abbrev pub event_in : Item → List Event
-event_in (Letter l) = []
-event_in (Task t) = t.event ∷ []
-
 -- the events that it has put into its node's inbox, the oldest first
 abbrev pub asked_by : Caller → List Event
-asked_by c = flat_map (λ p. event_in p.item) c.line.parcels
+asked_by c = events_on c.line
 
 -- the ticket of the next event that it asks for
 abbrev pub ticket_of : Caller → Ticket
@@ -85,10 +79,14 @@ Numbers c d = d.next ≡ c.next + 1
 abbrev pub Puts : Item → Caller → Caller → Type 0
 Puts i c d = d.line ≡ with_parcel i c.line
 
+-- nothing was put, and the next event has the same number
+abbrev pub PutsNothing : Caller → Caller → Type 0
+PutsNothing c d = (d.line ≡ c.line) × (d.next ≡ c.next)
+
 -- it has put the item there, or has it still
 abbrev pub Offers : Item → Option Item → Caller → Caller → Type 0
-Offers i None c d = Puts i c d
-Offers i (Some back) c d = (back ≡ i) × (d.line ≡ c.line)
+Offers i None c d = Puts i c d × Numbers c d
+Offers i (Some back) c d = (back ≡ i) × PutsNothing c d
 
 -- no reply comes any more for such a reason alone
 abbrev pub IsEnd : SeatFault → Type 0

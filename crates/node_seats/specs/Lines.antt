@@ -1,7 +1,10 @@
 -- What is put on lines.
 use Rattle.std.specs.Prelude.{ℕ, Bool, ◌==◌, Option, is_some, List, [], ◌∷◌, ◌++◌, if◌then◌else◌}
-use Rattle.std.specs.List.{position}
+use Rattle.std.specs.List.{flat_map, position}
 use Rattle.link.specs.Mailboxes.{Room}
+use Rattle.shared_table.specs.declared.Event.{Event}
+use Rattle.shared_table.specs.declared.Item.{Item}
+use Rattle.shared_table.specs.declared.Item.TheVariants.{Letter, Task}
 use Rattle.node_seats.specs.declared.parcel.Parcel.{Parcel}
 
 -- a line: the node that it leads to, the sender's number there, the inbox that it leads into, and what was put on it, the oldest first
@@ -29,3 +32,12 @@ module _ {L : Type 0} where
   with_parcel_to to item [] = []
   with_parcel_to to item (line ∷ lines) =
       if line.receiver == to then with_parcel item line ∷ lines else line ∷ with_parcel_to to item lines
+
+-- the event that an item asks for, if it is a task
+abbrev pub event_in : Item → List Event
+event_in (Letter l) = []
+event_in (Task t) = t.event ∷ []
+
+-- the events that were asked for on a line, the oldest first
+abbrev pub events_on : Sent Item → List Event
+events_on line = flat_map (λ p. event_in p.item) line.parcels

@@ -1,5 +1,5 @@
 -- Seats, and what they were answered.
-use Rattle.std.specs.Prelude.{ℕ, true, ◌≡◌, ◌==◌, ◌⊎◌, Option, Some, None, Result, Ok, Err, List, [], ◌∷◌, ◌++◌}
+use Rattle.std.specs.Prelude.{ℕ, true, ◌≡◌, ◌==◌, ◌⊎◌, Option, Some, None, Result, Ok, Err, List, [], ◌∷◌, ◌++◌, length}
 use Rattle.std.specs.List.{find}
 use Rattle.link.specs.Mailboxes.{Room}
 use Rattle.shared_table.specs.declared.Answer.{Answer}
@@ -88,11 +88,10 @@ with_entry e answer s = record s {
   entries = s.entries ++ record { event = At s.node e; answer = answer } ∷ [];
 }
 
--- The loop of the seat's node told the seat so, for something that it asked. What the node then showed its readers is behind no more of its
--- log than the seat t was told of, and behind a log of that length it has shown an edition of its table
+-- The loop of the seat's node told the seat so, for what it asked next, under the ticket of that. What the node then showed its readers is
+-- behind no more of its log than the seat t was told of, and behind a log of that length it has shown an edition of its table
 pub record IsAnswered (s : Sitting) (outcome : Result Effect TaskFault) (t : Sitting) : Type 0 where
-  pub number : ℕ
-  pub told : IsToldTo s.node (record { seat = s.seat; slot = s.slot; number = number }) outcome t.seen.told
+  pub told : IsToldTo s.node (record { seat = s.seat; slot = s.slot; number = length s.asked }) outcome t.seen.told
   pub learns : Learns s.seen t.seen
   pub shown : HasShown s.node t.seen.told
 

@@ -1,9 +1,10 @@
 //! How a thread asks a node's thread.
-ghost use Rattle.std.specs.Prelude.{◌≡◌, ◌<◌, ◌≤◌, ◌+◌, ◌++◌, ◌∷◌, ◌⊎◌, [], true, false, IfOk, OnOk, OnErr, IfErr, IfSome, Ok, Err};
+ghost use Rattle.std.specs.Prelude.{◌≡◌, ◌<◌, ◌≤◌, ◌+◌, ◌^◌, ◌++◌, ◌∷◌, ◌⊎◌, [], length, true, false, IfOk, OnOk, OnErr, IfErr, IfSome, Ok, Err};
 ghost use Rattle.shared_table.specs.Editions.{HasShown};
 ghost use Rattle.shared_table.specs.Events.{knows_contact as knows};
 ghost use Rattle.shared_table.specs.declared.Event.TheVariants.{Call as Calls};
 ghost use Rattle.node_seats.specs.Addresses.{inbox_at};
+ghost use Rattle.node_seats.specs.Lines.{event_in, events_on};
 ghost use Rattle.node_seats.specs.declared.fault.SeatFault.TheVariants.{NoSuchNode};
 ghost use Rattle.node_seats.specs.Faults.{told_as, IsAskRefused, MayAsk, IsUnmade, unmade};
 ghost use Rattle.node_seats.specs.Replies.{IsToldTo, IsFaultTold};
@@ -32,7 +33,7 @@ pub struct Caller {
     place: Place,
     node: Node,
     line: Line<Item>,
-    /// The number of its next event.
+    /// The number of its next event: how many it has asked for.
     next: u64,
     hub: Arc<Hub, Global>,
     standing: Arc<Standing, Global>,
@@ -40,6 +41,7 @@ pub struct Caller {
     reader: TableReader,
     rest: Rest,
     ghost shown: { HasShown node reader.told },
+    ghost counted: { next ≡ length (events_on line) },
 }
 
 /// What a caller is told of an event whose contact is of the cluster. Its node has the same nodes, and calls none of them a stranger.
@@ -64,7 +66,7 @@ fn unmade(cause: Option<SeatFault>) -> SeatFault
 }
 
 impl Caller {
-    ghost use Rattle.node_seats.specs.Callers.{name_of, inbox_of, place_of, nodes_of, nodes_at, asked_by, seen_of, told_of, unseen, ticket_of, task_for, Numbers, Puts, Offers, IsEnd, MayPut, Learns};
+    ghost use Rattle.node_seats.specs.Callers.{name_of, inbox_of, place_of, nodes_of, nodes_at, asked_by, seen_of, told_of, unseen, ticket_of, task_for, Numbers, Puts, PutsNothing, Offers, IsEnd, MayPut, Learns};
     ghost use Rattle.node_seats.specs.Seats.{Looked};
 
     /// One that asks the node of this address, which stands so, and finds its replies in the slot of this place.
@@ -193,10 +195,9 @@ impl Caller {
         ensures learns { Learns (seen_of self.old) (seen_of self.new) }
     {
         let number = self.next;
-        let Some(next) = number.checked_add(1) else {
+        if number == u64::MAX {
             return Err(SeatFault::Closed);
-        };
-        self.next = next;
+        }
         let Place { seat, slot } = self.place;
         let ticket = Ticket { seat, slot, number };
         let task = Task {
@@ -302,19 +303,23 @@ impl Caller {
         }
     }
 
-    /// Sends an item, or hands it back where there is no room for it yet.
+    /// Sends a task, under the next number, or hands it back where there is no room for it yet.
     fn offer<R: Wait>(&mut self, rt: &R, item: Item) -> Result<Option<Item>, SeatFault>
+        requires task { length (event_in item) ≡ 1 }
+        requires number { self.old.next + 1 < 2 ^ 64 }
         ensures place { place_of self.new ≡ place_of self.old }
         ensures node { name_of self.new ≡ name_of self.old }
         ensures nodes { nodes_of self.new ≡ nodes_of self.old }
-        ensures next { self.new.next ≡ self.old.next }
         ensures inbox { inbox_of self.new ≡ inbox_of self.old }
         ensures offers { IfOk result (λ back. Offers item back self.old self.new) }
-        ensures ended { IfErr result (λ fault. IsEnd fault × (self.new.line ≡ self.old.line)) }
+        ensures ended { IfErr result (λ fault. IsEnd fault × PutsNothing self.old self.new) }
         ensures seen { seen_of self.new ≡ seen_of self.old }
     {
         match self.line.send(rt, item) {
-            Ok(()) => Ok(None),
+            Ok(()) => {
+                self.next += 1;
+                Ok(None)
+            }
             Err(unsent) => match self.end() {
                 Some(fault) => Err(fault),
                 None => Ok(Some(unsent.letter)),
@@ -322,15 +327,17 @@ impl Caller {
         }
     }
 
-    /// Sends an item as soon as there is room for it.
+    /// Sends a task, under the next number, as soon as there is room for it.
     fn send<R: Wait + Clock>(&mut self, rt: &R, item: Item) -> Result<(), SeatFault>
+        requires task { length (event_in item) ≡ 1 }
+        requires number { self.old.next + 1 < 2 ^ 64 }
         ensures place { place_of self.new ≡ place_of self.old }
         ensures node { name_of self.new ≡ name_of self.old }
         ensures nodes { nodes_of self.new ≡ nodes_of self.old }
-        ensures next { self.new.next ≡ self.old.next }
         ensures inbox { inbox_of self.new ≡ inbox_of self.old }
         ensures put { OnOk result (Puts item self.old self.new) }
-        ensures ended { IfErr result (λ fault. IsEnd fault × (self.new.line ≡ self.old.line)) }
+        ensures numbered { OnOk result (Numbers self.old self.new) }
+        ensures ended { IfErr result (λ fault. IsEnd fault × PutsNothing self.old self.new) }
         ensures seen { seen_of self.new ≡ seen_of self.old }
     {
         self.rest.worked();
