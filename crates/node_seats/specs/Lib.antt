@@ -6,3 +6,5 @@ pub mod Replies
 pub mod Callers
 pub mod Seats
 pub mod Holders
+pub mod Stops
+pub mod Departures

@@ -1,10 +1,11 @@
 //! What a node's thread has of the node's seats.
-ghost use Rattle.std.specs.Prelude.{◌≡◌, [], true, false};
+ghost use Rattle.std.specs.Prelude.{◌≡◌, []};
 ghost use Rattle.shared_table.specs.Held.{written};
 ghost use Rattle.shared_table.specs.Coming.{IsLoopOf};
 ghost use Rattle.shared_table.specs.Sound.{LeavesSound};
 ghost use Rattle.shared_table.specs.Owing.{shown_by};
 ghost use Rattle.shared_table.specs.Publishing.{current};
+ghost use Rattle.node_seats.specs.Stops.{is_alone, ends_alone};
 
 use crate::bell::Rest;
 use crate::hub::Hub;
@@ -16,6 +17,27 @@ use std::alloc::Global;
 use std::marker::Model;
 use std::sync::{Arc, Wait};
 use std::time::Clock;
+
+/// Why the turns of a node's thread ended.
+#[derive(Clone, Copy, Debug, PartialEq, Eq)]
+pub enum Stop {
+    /// All threads were asked to end, and none of its turns failed.
+    Asked,
+    /// Its last turn failed.
+    Failed,
+}
+
+impl Stop {
+    /// Whether nobody asked for it. A thread that stops so ends alone, unless its node has left.
+    pub fn is_alone(self) -> bool
+        ensures { result ≡ is_alone self }
+    {
+        match self {
+            Stop::Asked => false,
+            Stop::Failed => true,
+        }
+    }
+}
 
 /// By what a node's thread answers those who ask it, tells them how it stands, and sleeps. Contracts see how often it yields at
 /// most before it sleeps.
@@ -52,10 +74,12 @@ impl Host {
     }
 
     /// Call it before the first turn of the node, and behind each turn that did something: tells how it stands, and whether it has left.
-    pub fn tell<N: Names<Memory = Global>, L: Record>(&self, node: &NodeLoop<N, L>) {
+    pub fn tell<N: Names<Memory = Global>, L: Record>(&self, node: &NodeLoop<N, L>)
+        requires { IsLoopOf node.now.log.node node.now }
+    {
         self.standing.tell(self.hub.nodes(), node);
         if node.has_left() {
-            self.standing.leave();
+            self.standing.leave(node);
         }
     }
 
@@ -110,15 +134,19 @@ impl Host {
     }
 
     /// Call it behind the last turn: tells the callers that no reply comes any more, and gives what the thread gives back. It ended
-    /// alone where the node hasn't left and the thread wasn't asked to end. Then the cluster is over, and all threads are asked to
-    /// end: what other nodes ask of this one is never answered.
-    pub fn end<N: Names<Memory = Global>, L: Record>(&self, node: NodeLoop<N, L>) -> NodeEnd<N, L>
+    /// alone where its last turn failed and the node hadn't left, also if all threads were asked to end meanwhile. Where it did the
+    /// cluster is over, and all are asked to end: what other nodes ask of this one is never answered.
+    pub fn end<N: Names<Memory = Global>, L: Record>(
+        &self,
+        node: NodeLoop<N, L>,
+        stop: Stop,
+    ) -> NodeEnd<N, L>
         ensures log { written (L.logged result.log) ≡ node.log }
         ensures table { N.contents result.table ≡ node.core.table }
-        ensures ended_alone { node.left ≡ true → result.ended_alone ≡ false }
+        ensures ended_alone { result.ended_alone ≡ ends_alone stop node.left }
         ensures sound { LeavesSound node (written (L.logged result.log)) (N.contents result.table) }
     {
-        let ended_alone = !node.has_left() && !self.hub.is_closing();
+        let ended_alone = stop.is_alone() && !node.has_left();
         self.standing.end();
         if ended_alone {
             self.hub.close();

@@ -31,7 +31,7 @@ pub use caller::Caller;
 pub use fault::SeatFault;
 pub use free_seat::FreeSeat;
 pub use holder::HolderSeat;
-pub use host::Host;
+pub use host::{Host, Stop};
 pub use hub::{Hub, MOST_READERS, SLOTS};
 pub use line::Line;
 pub use notes::{ForgottenNotes, KeptNotes, Notes};

@@ -51,7 +51,7 @@ pub fn open_node(
     ensures host { IfOk result (λ opened. opened.host ≡ yields) }
 {
     // What is large comes last: the check follows each way out with all that was made before it.
-    let standing = Arc::new(alloc, Standing::new(readers))?;
+    let standing = Arc::new(alloc, Standing::new(node.copy(), readers))?;
     let own = Arc::try_clone(hub)?;
     let Entrance {
         mut address,

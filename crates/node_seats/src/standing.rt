@@ -1,30 +1,44 @@
 //! How the thread of a node stands, as others read it.
-ghost use Rattle.std.specs.Prelude.{◌≡◌, [], IfOk};
+ghost use Rattle.std.specs.Prelude.{◌≡◌, [], true, IfOk};
+ghost use Rattle.shared_table.specs.Coming.{IsLoopOf};
+ghost use Rattle.node_seats.specs.Departures.{IsGone};
 
 use crate::told::{NodeStatus, Told};
 use crossbeam_utils::CachePadded;
 use name_table::Names;
 use shared_table::{NodeLoop, ReaderFactory, Record, TableReader};
 use std::alloc::{AllocError, Global};
+use std::sync::OnceLock;
 use std::sync::atomic::{AtomicBool, Ordering};
 use term::{Node, NodeSet};
+
+/// That a loop of a node has left.
+#[derive(Drop)]
+struct Departure {
+    node: Node,
+    ghost gone: { IsGone node },
+}
 
 /// What the thread of a node has told of itself, and by what its table is read.
 #[derive(Drop)]
 pub(crate) struct Standing {
+    node: Node,
     readers: ReaderFactory,
-    left: AtomicBool,
+    left: OnceLock<Departure>,
     ended: AtomicBool,
     /// It is written behind each step. Callers that wait read what stands above, so it lies apart from that.
     told: CachePadded<Told>,
 }
 
 impl Standing {
-    /// That of a node that is yet to start, whose table is read by these.
-    pub(crate) fn new(readers: ReaderFactory) -> Self {
+    /// That of this node, which is yet to start, and whose table is read by these.
+    pub(crate) fn new(node: Node, readers: ReaderFactory) -> Self
+        ensures { result.node ≡ node }
+    {
         Standing {
+            node,
             readers,
-            left: AtomicBool::new(false),
+            left: OnceLock::new(),
             ended: AtomicBool::new(false),
             told: CachePadded::new(Told::new()),
         }
@@ -55,9 +69,16 @@ impl Standing {
         self.told.status(node, nodes)
     }
 
-    /// The node has left.
-    pub(crate) fn leave(&self) {
-        self.left.store(true, Ordering::SeqCst);
+    /// The node has left, as this loop of it says.
+    pub(crate) fn leave<N: Names<Memory = Global>, L: Record>(&self, node: &NodeLoop<N, L>)
+        requires came { IsLoopOf node.now.log.node node.now }
+        requires left { node.now.left ≡ true }
+    {
+        let departure = Departure {
+            node: node.node().copy(),
+        };
+        // Where it was told before, it stays so.
+        let _ = self.left.try_set(departure);
     }
 
     /// The thread puts no reply any more.
@@ -65,9 +86,14 @@ impl Standing {
         self.ended.store(true, Ordering::SeqCst);
     }
 
-    /// Whether the node has left.
-    pub(crate) fn has_left(&self) -> bool {
-        self.left.load(Ordering::SeqCst)
+    /// Whether it was told that the node has left: only where a loop of it has.
+    pub(crate) fn has_left(&self) -> bool
+        ensures { result ≡ true → IsGone self.now.node }
+    {
+        match self.left.get() {
+            Some(departure) => departure.node == self.node,
+            None => false,
+        }
     }
 
     /// Whether the thread puts no reply any more.
