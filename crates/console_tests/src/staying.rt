@@ -53,7 +53,8 @@ fn help_and_names_by_their_beginning_are_lines_of_a_server_that_stays(rt: HostRu
     let alloc = rt.alloc();
     let text = b"error bad_line\nerror bad_line\n".as_slice();
     assert!(rt; answers(alloc, false, b"help\nnames x\n", text, ConsoleEnd::Input));
-    let text = b"help spawn spawn_link exit register re_register unregister whereis names notices set_lock del_lock join \
+    let text =
+        b"help spawn spawn_link exit register re_register unregister whereis names notices set_lock del_lock join \
         leave quit status help shutdown\nerror bad_line\nerror bad_byte\nerror bad_line\ntrue\na.1\n";
     let lines = b"help\nhelp me\nnames x!\nnames x y\nnames x\nspawn\n".as_slice();
     assert!(rt; answers(alloc, true, lines, text.as_slice(), ConsoleEnd::Input));

@@ -43,14 +43,17 @@ module _ (cookie : Option (List ℕ)) (nodes : List ℕ) (input rest old kept ne
   -- a part of an answer was written
   cut : (found : Result ℕ GreetFault) → ReadsFirst cookie nodes input rest old kept found
       → AppendsPart kept new (greeting_text found) → IsTurnedAway cookie nodes input rest old new
-  cut found reads part = inr (inr (Write, inr (record {
-    line = reads.line;
-    answer = found;
-    read = reads.read;
-    attaches = reads.attaches;
-    wrote = grown_partly old kept new _ reads.kept part;
-    fault_is = inl refl;
-  })))
+  cut found reads part = inr (inr (
+    Write,
+    inr (record {
+      line = reads.line;
+      answer = found;
+      read = reads.read;
+      attaches = reads.attaches;
+      wrote = grown_partly old kept new _ reads.kept part;
+      fault_is = inl refl;
+    }),
+  ))
 
   -- one for which there was no place
   unplaced : (node : ℕ) → ReadsFirst cookie nodes input rest old kept (Ok node)
@@ -80,13 +83,13 @@ module _ (cookie : Option (List ℕ)) (nodes : List ℕ) (input rest old kept ne
       → IsSentAway found kept new → IsTurnedAway cookie nodes input rest old new
   sent_away (Ok node) reads sent = elim sent.1 [
     | inl same ↦ elim sent.2 [
-        | inl all ↦ absurd (differ sent.0 node all.0 same all.1)
-        | inr part ↦ cut (Ok node) reads (subst (λ (r : Result ℕ GreetFault). AppendsPart kept new (greeting_text r)) same part)
-      ]
+      | inl all ↦ absurd (differ sent.0 node all.0 same all.1)
+      | inr part ↦ cut (Ok node) reads (subst (λ (r : Result ℕ GreetFault). AppendsPart kept new (greeting_text r)) same part)
+    ]
     | inr full ↦ unplaced node reads (subst (λ (r : Result ℕ GreetFault). AppendsPart kept new (greeting_text r)) full (elim sent.2 [
-        | inl all ↦ whole kept new (greeting_text sent.0) all.2
-        | inr part ↦ part
-      ]))
+      | inl all ↦ whole kept new (greeting_text sent.0) all.2
+      | inr part ↦ part
+    ]))
   ]
   sent_away (Err fault) reads sent = elim sent.2 [
     | inl all ↦ refused fault reads (subst (λ (r : Result ℕ GreetFault). Appends kept new (greeting_text r)) sent.1 all.2)
