@@ -1,22 +1,15 @@
--- Names that are chosen by their beginning, one after another.
-use Rattle.std.proofs.Common.{ℕ, Bool, true, false, cond, ◌≡◌, List, [], ◌∷◌, ◌++◌, ap, refl, ◌∙◌, append-nil}
-use Rattle.std.specs.Prelude.{filter, flat_map}
-use Rattle.std.proofs.lemmas.Grind.{flat_map-append}
-use Rattle.std.proofs.lemmas.List.Elements.{filter-append}
-use Rattle.term.specs.Spelling.{bytes_of}
-use Rattle.console.specs.Chosen.{begins_with, name_if, names_from}
+-- Names that are chosen by their beginning.
+use Rattle.std.proofs.Common.{ℕ, false, ◌≡◌, List, Result, Ok, Err, MatchResult, IfOk, refl}
+use Rattle.command_lines.specs.declared.Call.TheVariants.{RegisteredNames}
+use Rattle.command_lines.specs.declared.Reply.{Reply}
+use Rattle.node_seats.specs.declared.fault.SeatFault.{SeatFault}
+use Rattle.console.specs.Chosen.{chosen_text}
+use Rattle.console.specs.Consoles.{Answering, ChoosesNames}
+use Rattle.console.specs.declared.orders.Order.TheVariants.{Call}
 
--- the text of names, a blank before each
-abbrev pub text_of : List ℕ → List ℕ
-text_of names = flat_map (λ x. 32 ∷ bytes_of x) names
-
-one : (x : ℕ) (b : Bool) → text_of (cond b (x ∷ []) []) ≡ cond b (32 ∷ bytes_of x) []
-one x true = append-nil (32 ∷ bytes_of x)
-one x false = refl
-
--- one name more
-pub name_behind : (prefix : ℕ) (names : List ℕ) (x : ℕ) → text_of (names_from prefix (names ++ x ∷ [])) ≡ text_of (names_from prefix names) ++ name_if prefix x
-name_behind prefix names x =
-    ap text_of (filter-append (begins_with prefix) names (x ∷ []))
-    ∙ flat_map-append (λ y. 32 ∷ bytes_of y) (names_from prefix names) (names_from prefix (x ∷ []))
-    ∙ ap (λ (t : List ℕ). text_of (names_from prefix names) ++ t) (one x (begins_with prefix x))
+-- the line of an answer is printed, or there is no memory for it
+pub names_said : {S A F : Type 0} (answers : Answering S) (bytes_of : A → List ℕ) (prefix : ℕ) (s t : S) (outcome : Result Reply SeatFault)
+    (r : Result A F) → answers s (Call RegisteredNames) false outcome t → IfOk r (λ line. bytes_of line ≡ chosen_text prefix outcome)
+    → MatchResult r (λ line. ChoosesNames answers prefix s (bytes_of line) t) (λ _. (text : List ℕ) × ChoosesNames answers prefix s text t)
+names_said answers bytes_of prefix s t outcome (Ok line) asked says = (outcome, asked, says)
+names_said answers bytes_of prefix s t outcome (Err _) asked says = (chosen_text prefix outcome, outcome, asked, refl)
