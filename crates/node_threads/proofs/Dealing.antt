@@ -78,9 +78,9 @@ taken_more from i pairs x = flat_map-append (λ y. if x == y.0 then y.1 ∷ [] e
     refl (λ y ne. append-nil (taken_from y pairs)) x
 
 takes_one : (s : Traffic) (from : ℕ) (i : Item) (t : Traffic) → Takes s from i t → dealt_of t ≡ with_taken from i (dealt_of s)
-takes_one s from (Letter l) t h = ap dealt_of h.1.2
+takes_one s from (Letter l) t h = ap dealt_of h.2.2
     ∙ ap (λ (f : ℕ → List Item). record { sent = λ x. sent_to x s.lines; taken = f }) (fun_ext (taken_more from (Letter l) s.letters))
-takes_one s from (Task k) t h = ap dealt_of h.2.4
+takes_one s from (Task k) t h = ap dealt_of h.2.2
 
 -- who has a number is one of the nodes
 under_known : (number : ℕ) (nodes : List ℕ) (from : ℕ) → node_under number nodes ≡ Some from → set_of nodes from ≡ true
@@ -105,12 +105,12 @@ module _ (o : Opening) where
   gives : (s : Traffic) (from : ℕ) (i : Item) (t : Traffic) → leads_inside o s ≡ true → Takes s from i t
       → (leads_inside o t ≡ true) × (in_world o from ≡ true)
   gives s from (Letter l) t here h = (
-    ap (leads_inside o) h.1.2 ∙ here,
+    ap (leads_inside o) h.2.2 ∙ here,
     each_of (in_world o) (receivers s.lines) (both (in_world o s.node) (list_all (in_world o) (receivers s.lines)) here).1 from
-        (under_known h.1.0 (receivers s.lines) from h.1.1),
+        (under_known h.2.0 (receivers s.lines) from h.2.1),
   )
   gives s from (Task k) t here h = (
-    ap (leads_inside o) h.2.4 ∙ here,
+    ap (leads_inside o) h.2.2 ∙ here,
     ap (in_world o) h.0 ∙ (both (in_world o s.node) (list_all (in_world o) (receivers s.lines)) here).0,
   )
 
@@ -131,11 +131,11 @@ module _ (o : Opening) where
 -- what is fixed stays so
 pub fixed_by_post : (s : Traffic) (to : ℕ) (i : Item) (t : Traffic) → Posts s to i t → fixed t ≡ fixed s
 fixed_by_post s to i t h = ap fixed h.1
-    ∙ ap (λ (ls : List (Sent Item)). record { node = s.node; first = s.first; lines = ls; letters = []; tasks = []; waiting = [] }) (unused_kept to i s.lines)
+    ∙ ap (λ (ls : List (Sent Item)). record (fixed s) { lines = ls }) (unused_kept to i s.lines)
 
 pub fixed_by_taking : (s : Traffic) (from : ℕ) (i : Item) (t : Traffic) → Takes s from i t → fixed t ≡ fixed s
-fixed_by_taking s from (Letter l) t h = ap fixed h.1.2
-fixed_by_taking s from (Task k) t h = ap fixed h.2.4
+fixed_by_taking s from (Letter l) t h = ap fixed h.2.2
+fixed_by_taking s from (Task k) t h = ap fixed h.2.2
 
 -- on lines on which nothing was put nothing was sent
 nothing_sent : (to : ℕ) (lines : List (Sent Item)) → sent_to to (map unused lines) ≡ []

@@ -5,6 +5,8 @@ mod Coming
 mod Departing
 mod Givers
 mod Sending
+mod Taking
+mod Waiting
 mod Dealing
 mod Turns
 pub mod Opening
@@ -13,6 +15,7 @@ mod Starting
 mod Connecting
 mod Seats
 pub mod Rows
+mod Standings
 mod Gathering
 mod Comparing
 mod Pairs

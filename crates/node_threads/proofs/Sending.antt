@@ -31,9 +31,9 @@ written to item (x ∷ xs) (suc k) line read lt leads before =
     ∙ sym (ap (λ (b : Bool). if b then with_parcel item x ∷ xs else x ∷ with_parcel_to to item xs) (before 0 (omega arith)))
 
 -- the line at the place of a node, which is written back behind it
-module _ (node to : ℕ) (first : Mailbox (Parcel Item)) (lines : List (Sent Item)) (parcels : List (Parcel Item)) (waiting : List Task) (item : Item) (k : ℕ) (line new : Sent Item) (found : place to lines ≡ Some k) (read : line ≡ get_or lines k line) where
+module _ (node to : ℕ) (first : Mailbox (Parcel Item)) (lines : List (Sent Item)) (parcels : List (Parcel Item)) (waiting : List Task) (row : ℕ) (passed : Bool) (looked : ℕ) (dry : Bool) (item : Item) (k : ℕ) (line new : Sent Item) (found : place to lines ≡ Some k) (read : line ≡ get_or lines k line) where
   abbrev with : List (Sent Item) → Traffic
-  with ls = end_at node first ls parcels waiting
+  with ls = end_at node first ls parcels waiting row passed looked dry
 
   there : (k < length lines) × ((get_or lines k line).receiver == to ≡ true) × ((n : ℕ) → n < k → ((get_or lines n line).receiver == to) ≡ false)
   there = position-Some (λ l. l.receiver == to) lines k line found
@@ -48,6 +48,10 @@ module _ (node to : ℕ) (first : Mailbox (Parcel Item)) (lines : List (Sent Ite
       letters = letters_of (kept j) parcels;
       tasks = tasks_of parcels;
       waiting = waiting;
+      in_a_row = row;
+      has_passed = passed;
+      looks = looked;
+      in_vain = dry;
     },
   )
     where

@@ -14,7 +14,8 @@ use Rattle.node_seats.specs.declared.parcel.Parcel.{Parcel}
 use Rattle.node_seats.specs.Lines.{Sent}
 use Rattle.replay.specs.Ends.{End}
 use Rattle.node_threads.specs.declared.ruled_end.Traffic.{Traffic}
-use Rattle.node_threads.specs.Givers.{receivers, letters_of, tasks_of}
+use Rattle.node_threads.specs.Givers.{receivers, letters_of}
+use Rattle.node_threads.specs.Traffics.{begun}
 use Rattle.node_threads.specs.Wires.{unused}
 use Rattle.node_threads.specs.Ends.{are_inside, leads_inside, fixed}
 use Rattle.node_threads.specs.Dealings.{sent_to, taken_from, dealt_of, dealt_by}
@@ -57,14 +58,7 @@ ends_behind a s b t c u stays ends o here = ends o (stays o here)
 
 -- What a thread gives back: it began with the loop a and an end that stood as s, and behind its last turn they were b and t
 module _ (a : Looping) (lines : List (Sent Item)) (mailbox : Mailbox (Parcel Item)) (s : Traffic) (b : Looping) (t : Traffic) (e : End) (rows : List (Sent Item)) (box : Mailbox (Parcel Item))
-    (first : s ≡ record {
-      node = a.log.node;
-      first = mailbox;
-      lines = lines;
-      letters = letters_of (receivers lines) (taken mailbox);
-      tasks = tasks_of (taken mailbox);
-      waiting = [];
-    })
+    (first : s ≡ begun a.log.node lines mailbox)
     (came : IsLoopOf a.log.node b) (node : b.log.node ≡ a.log.node) (sound : LastsSound a s b t) (same : fixed t ≡ fixed s)
     (log : written e.log ≡ b.log) (table : e.table ≡ b.core.table) (left : b.left ≡ true → e.ended_alone ≡ false) (leaves : LeavesSound b (written e.log) e.table)
     (row : rows ≡ t.lines) (took : letters_of (receivers t.lines) (taken box) ≡ t.letters) (room : mailbox_room box ≡ mailbox_room t.first) where

@@ -1,10 +1,12 @@
 -- What contracts see of a cluster.
-use Rattle.std.specs.Prelude.{ℕ, ◌≡◌, Some, Ok, List, ◌++◌, map}
+use Rattle.std.specs.Prelude.{ℕ, Bool, true, false, ◌≡◌, Some, Ok, List, ◌++◌, map}
 use Rattle.node_loop.specs.declared.Event.TheVariants.{Leave}
 use Rattle.node_loop.specs.declared.replies.Effect.TheVariants.{Left}
 use Rattle.node_seats.specs.declared.caller.Caller.{Caller}
+use Rattle.node_seats.specs.declared.fault.SeatFault.{SeatFault}
+use Rattle.node_seats.specs.declared.fault.SeatFault.TheVariants.{NoSuchNode}
 use Rattle.node_seats.specs.Addresses.{Inbox}
-use Rattle.node_seats.specs.Callers.{inbox_of, ticket_of, told_of, task_for, Puts}
+use Rattle.node_seats.specs.Callers.{inbox_of, ticket_of, told_of, task_for, Puts, IsEnd}
 use Rattle.node_seats.specs.Replies.{IsToldTo, HasLeft}
 use Rattle.node_seats.specs.Seats.{Sitting, new_seat}
 use Rattle.node_threads.specs.Wires.{Wired, inboxes, inbox_to}
@@ -33,6 +35,11 @@ seats_more c = record c { seating = with_seat c.seating }
 -- a seat with this slot was given back
 abbrev pub seats_fewer : ℕ → Crewed → Crewed
 seats_fewer slot c = record c { seating = without_slot slot c.seating }
+
+-- why a cluster doesn't tell how a node stands: whether it has the node; and if so, that nobody can tell any more
+abbrev pub IsUntold : SeatFault → Bool → Type 0
+IsUntold NoSuchNode known = known ≡ false
+IsUntold fault known = (known ≡ true) × IsEnd fault
 
 -- A leave was put into this inbox. The loop of its node told the caller that put it there that the node has left, and its log has the leave
 pub record LeftAsAsked (inbox : Inbox) : Type 0 where

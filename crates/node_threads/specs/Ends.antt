@@ -1,5 +1,5 @@
 -- What the steps of a node's end leave.
-use Rattle.std.specs.Prelude.{ℕ, Bool, ◌&&◌, List, [], map}
+use Rattle.std.specs.Prelude.{ℕ, Bool, false, ◌&&◌, List, [], map}
 use Rattle.std.specs.List.{list_all}
 use Rattle.protocol_model.specs.World.{Opening, in_world}
 use Rattle.node_threads.specs.declared.ruled_end.Traffic.{Traffic}
@@ -16,4 +16,13 @@ leads_inside o s = are_inside o s.node (receivers s.lines)
 
 -- what no step changes: whose end it is, its inbox as it was at first, and its lines as they were before anything was put on them
 abbrev pub fixed : Traffic → Traffic
-fixed s = record s { lines = map unused s.lines; letters = []; tasks = []; waiting = [] }
+fixed s = record s {
+  lines = map unused s.lines;
+  letters = [];
+  tasks = [];
+  waiting = [];
+  in_a_row = 0;
+  has_passed = false;
+  looks = 0;
+  in_vain = false;
+}

@@ -9,6 +9,7 @@ pub mod Wires
 pub mod Berths
 pub mod Givers
 pub mod Traffics
+pub mod Fairness
 pub mod Ends
 pub mod Dealings
 pub mod Soundness

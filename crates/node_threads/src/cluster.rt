@@ -95,7 +95,7 @@ where
     N: Names<Memory = Global> + Send + 'static,
     L: Record + Send + 'static,
 {
-    ghost use Rattle.node_threads.specs.Clusters.{nodes_in, next_seats, seats_more, seats_fewer, LeftAt};
+    ghost use Rattle.node_threads.specs.Clusters.{nodes_in, next_seats, seats_more, seats_fewer, LeftAt, IsUntold};
     ghost use Rattle.node_threads.specs.Seating.{no_seats, are_spent};
     ghost use Rattle.node_threads.specs.Wires.{IsCrew};
 
@@ -242,12 +242,14 @@ where
     /// How the node of this name stands, as its thread told last. It asks the node for nothing, and waits for nobody. `NoSuchNode`: the
     /// node isn't of the cluster. `NodeLeft`: it has left. `Closed`: its thread has ended.
     pub fn status(&self, node: &NodeName) -> Result<NodeStatus, SeatFault>
-        ensures { set_of (nodes_in self.now) node.now ≡ false → result ≡ Err NoSuchNode }
+        ensures stranger { set_of (nodes_in self.now) node.now ≡ false → result ≡ Err NoSuchNode }
+        ensures node { IfOk result (λ status. status.node ≡ node.now) }
+        ensures untold { IfErr result (λ fault. IsUntold fault (set_of (nodes_in self.now) node.now)) }
     {
-        let Some(index) = index_of(self.running.as_slice(), node) else {
-            return Err(SeatFault::NoSuchNode);
-        };
-        self.running[index].status()
+        match index_of(self.running.as_slice(), node) {
+            Some(index) => self.running[index].status(),
+            None => Err(SeatFault::NoSuchNode),
+        }
     }
 
     /// Asks all threads to end, waits until they have, and holds what each took against what the others put: what they left behind.

@@ -30,6 +30,7 @@ mod berths;
 mod cluster;
 mod crew;
 mod ending;
+mod fairness;
 mod intake;
 mod ruled_end;
 mod running;
@@ -38,6 +39,7 @@ mod shared;
 
 pub use cluster::Cluster;
 pub use ending::{EndFault, EndedCluster};
+pub use fairness::nobody_starves;
 pub use node_loop::{ForgottenLog, Gate, Log, OpenGate, Record, StartFault};
 pub use node_seats::{
     Beside, Call, ForgottenNotes, FreeSeat, HolderSeat, KeptNotes, Line, NameList, Nobody,

@@ -29,10 +29,14 @@ pub struct RuledEnd<R: Wait + Drop> {
     mailbox: Mailbox<Parcel<Item>>,
     /// The tasks that stood before a letter, the oldest first.
     waiting: VecDeque<Task>,
-    /// How many letters were taken since the last task was.
+    /// How many letters were taken since the last task was, counted up to `MOST_LETTERS`.
     in_a_row: u32,
     /// Whether the last task was taken before one that waited longer.
     has_passed: bool,
+    /// How many looks the last taking made into the inbox.
+    looks: usize,
+    /// Whether the last look found nothing.
+    in_vain: bool,
     /// The inbox as it was at first.
     first: Snapshot<Mailbox<Parcel<Item>>>,
 }
@@ -52,13 +56,17 @@ impl<R: Wait + Drop> Model for RuledEnd<R> {
       letters = letters_of (receivers e.lines.items) (taken e.mailbox);
       tasks = tasks_of (taken e.mailbox);
       waiting = e.waiting.items;
+      in_a_row = e.in_a_row;
+      has_passed = e.has_passed;
+      looks = e.looks;
+      in_vain = e.in_vain;
     } };
 
     ghost invariant = { λ e. mailbox_room e.mailbox ≡ mailbox_room e.first.value };
 }
 
-/// What the sends and takings of an end change: its lines, what came off its inbox, and which of the tasks among that wait. No value
-/// of it is made.
+/// What the sends and takings of an end change: its lines, what came off its inbox, which of the tasks among that wait, and by what letters
+/// and tasks take turns. No value of it is made.
 pub struct Traffic {
     node: Node,
     first: Mailbox<Parcel<Item>>,
@@ -67,6 +75,14 @@ pub struct Traffic {
     letters: LinkedList<(Node, Item)>,
     tasks: LinkedList<Task>,
     waiting: LinkedList<Task>,
+    /// How many letters were taken since the last task was, counted up to as many as may be taken in a row.
+    in_a_row: u32,
+    /// Whether the last task was taken before one that waited longer.
+    has_passed: bool,
+    /// How many looks the last taking made into the inbox.
+    looks: usize,
+    /// Whether the last look found nothing.
+    in_vain: bool,
 }
 
 /// What one look into an inbox finds.
@@ -118,11 +134,11 @@ fn first_asking(waiting: &VecDeque<Task>) -> Option<usize>
 }
 
 impl<R: Wait + Drop> RuledEnd<R> {
-    ghost use Rattle.std.specs.Prelude.{◌<◌, [], length, MatchOption, List};
+    ghost use Rattle.std.specs.Prelude.{◌<◌, ◌+◌, [], false, length, MatchOption, List};
     ghost use Rattle.link.specs.Mailboxes.{taken, mailbox_room};
     ghost use Rattle.node_loop.specs.declared.item.Task.{Task as AnyTask};
-    ghost use Rattle.node_threads.specs.Givers.{letters_of, tasks_of};
-    ghost use Rattle.node_threads.specs.Traffics.{with_tasks, Hears, Serves, IsNext, Looks};
+    ghost use Rattle.node_threads.specs.Givers.{letters_of};
+    ghost use Rattle.node_threads.specs.Traffics.{begun, with_tasks, lasting, is_nothing, is_tasks_turn, counted, next_place, Hears, Serves, Finds, FindsNext, HasSearched};
 
     /// The end of this node.
     pub(crate) fn new(
@@ -132,14 +148,7 @@ impl<R: Wait + Drop> RuledEnd<R> {
         lines: Vec<Line<Item>>,
         mailbox: Mailbox<Parcel<Item>>,
     ) -> Self
-        ensures { result ≡ record {
-          node = node;
-          first = mailbox;
-          lines = lines.items;
-          letters = letters_of (receivers lines.items) (taken mailbox);
-          tasks = tasks_of (taken mailbox);
-          waiting = [];
-        } }
+        ensures { result ≡ begun node lines.items mailbox }
     {
         let first = Snapshot::of(&mailbox);
         RuledEnd {
@@ -150,6 +159,8 @@ impl<R: Wait + Drop> RuledEnd<R> {
             waiting: VecDeque::new(alloc),
             in_a_row: 0,
             has_passed: false,
+            looks: 0,
+            in_vain: false,
             first,
         }
     }
@@ -164,9 +175,9 @@ impl<R: Wait + Drop> RuledEnd<R> {
         (lines, mailbox)
     }
 
-    /// Looks what is next in the inbox. There is room for a task to wait before it is taken off.
-    fn look(&mut self) -> Found
-        ensures { Looks result self.old self.new }
+    /// What is next in the inbox. There is room for a task to wait before it is taken off.
+    fn find(&mut self) -> Found
+        ensures { Finds result self.old self.new }
     {
         if self.waiting.reserve(1).is_err() {
             return Found::Nothing;
@@ -187,15 +198,28 @@ impl<R: Wait + Drop> RuledEnd<R> {
         }
     }
 
-    /// The oldest letter that is found, unless it is a task's turn; tasks before it wait.
-    fn next_letter(&mut self) -> Option<(Node, Stamped)>
-        ensures { (more : List AnyTask) × MatchOption result (self.new ≡ with_tasks more self.old)
-            (λ x. Hears x.0 x.1 (with_tasks more self.old) self.new) }
+    /// Looks what is next in the inbox.
+    fn look(&mut self) -> Found
+        requires { self.old.looks < INBOX_ROOM }
+        ensures finds { Finds result (lasting self.old) (lasting self.new) }
+        ensures looks { self.new.looks ≡ self.old.looks + 1 }
+        ensures vain { self.new.in_vain ≡ is_nothing result }
     {
-        if !self.waiting.is_empty() && self.in_a_row >= MOST_LETTERS {
-            return None;
-        }
-        for _ in 0..INBOX_ROOM {
+        let found = self.find();
+        self.looks += 1;
+        self.in_vain = matches!(found, Found::Nothing);
+        found
+    }
+
+    /// Searches the inbox for a letter: up to the first, or until it finds nothing, and no further than an inbox has room for. Tasks before
+    /// it wait.
+    fn search(&mut self) -> Option<(Node, Stamped)>
+        ensures { (more : List AnyTask) × MatchOption result
+            ((lasting self.new ≡ with_tasks more (lasting self.old)) × HasSearched self.new)
+            (λ x. Hears x.0 x.1 (with_tasks more (lasting self.old)) (lasting self.new)) }
+    {
+        self.looks = 0;
+        while self.looks < INBOX_ROOM {
             match self.look() {
                 Found::Heard(from, stamped) => return Some((from, stamped)),
                 Found::Other => {}
@@ -205,9 +229,37 @@ impl<R: Wait + Drop> RuledEnd<R> {
         None
     }
 
+    /// Whether it is a task's turn: one waits, and so many letters were taken since the last.
+    fn is_tasks_turn(&self) -> bool
+        ensures { result ≡ is_tasks_turn self.now }
+    {
+        !self.waiting.is_empty() && self.in_a_row >= MOST_LETTERS
+    }
+
+    /// A letter more was taken in a row.
+    fn count(&mut self)
+        ensures { self.new ≡ counted self.old }
+    {
+        if self.in_a_row < MOST_LETTERS {
+            self.in_a_row += 1;
+        }
+    }
+
+    /// The oldest letter that is found, unless it is a task's turn.
+    fn next_letter(&mut self) -> Option<(Node, Stamped)>
+        ensures { FindsNext result self.old self.new }
+    {
+        if self.is_tasks_turn() {
+            return None;
+        }
+        let letter = self.search()?;
+        self.count();
+        Some(letter)
+    }
+
     /// The place of the task that comes next, if one waits.
     fn next_place(&self) -> usize
-        ensures next { IsNext result self.now.waiting }
+        ensures next { result ≡ next_place self.now }
         ensures bound { 0 < length self.now.waiting → result < length self.now.waiting }
     {
         if self.has_passed {
@@ -221,16 +273,19 @@ impl<R: Wait + Drop> RuledEnd<R> {
         ensures { MatchOption result ((self.new ≡ self.old) × (self.old.waiting ≡ [])) (λ task. Serves task self.old self.new) }
     {
         let place = self.next_place();
+        let task = self.waiting.remove(place)?;
         self.has_passed = place > 0;
         self.in_a_row = 0;
-        self.waiting.remove(place)
+        Some(task)
     }
 }
 
 impl<R: Wait + Drop> Station for RuledEnd<R> {
+    ghost use Rattle.node_threads.specs.Traffics.{lasting};
+
     type State = Traffic;
 
-    ghost state = { λ e. e };
+    ghost state = { lasting };
 }
 
 impl<R: Wait + Drop> Post<Item> for RuledEnd<R> {
@@ -252,7 +307,7 @@ impl<R: Wait + Drop> Post<Item> for RuledEnd<R> {
 }
 
 impl<R: Wait + Drop> Inbox<Item> for RuledEnd<R> {
-    ghost use Rattle.node_threads.specs.Traffics.{Takes, Misses, Fails};
+    ghost use Rattle.node_threads.specs.Traffics.{Takes, Misses, Fails, Gives, SearchesFirst};
 
     ghost takes = { Takes };
 
@@ -260,9 +315,11 @@ impl<R: Wait + Drop> Inbox<Item> for RuledEnd<R> {
 
     ghost fails = { Fails };
 
-    fn take(&mut self) -> Result<Option<(Node, Item)>, LinkFault> {
+    fn take(&mut self) -> Result<Option<(Node, Item)>, LinkFault>
+        ensures taking { Gives result self.old self.new }
+        ensures searched { SearchesFirst result self.old self.new }
+    {
         if let Some((from, stamped)) = self.next_letter() {
-            self.in_a_row = self.in_a_row.saturating_add(1);
             return Ok(Some((from, Item::Letter(stamped))));
         }
         match self.next_task() {

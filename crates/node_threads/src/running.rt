@@ -310,7 +310,8 @@ impl<N: Names<Memory = Global> + Send + 'static, L: Record + Send + 'static> Run
 
     /// How the node stands, as its thread told last; or why nobody can tell any more.
     pub(crate) fn status(&self) -> Result<NodeStatus, SeatFault>
-        ensures { IfErr result IsEnd }
+        ensures node { IfOk result (λ status. status.node ≡ name_of self.now) }
+        ensures ended { IfErr result IsEnd }
     {
         self.caller.status()
     }
