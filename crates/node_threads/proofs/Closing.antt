@@ -4,11 +4,13 @@ use Rattle.std.specs.Prelude.{Result, Ok, Err, IfOk, IfErr}
 use Rattle.node_loop.specs.declared.Transcript.{Transcript}
 use Rattle.replay.specs.declared.closed.Closed.{Closed}
 use Rattle.replay.specs.declared.faults.CloseFault.{CloseFault}
+use Rattle.replay.specs.declared.faults.CloseFault.TheVariants.{Torn, LeftInHold, Stranger, Memory}
 use Rattle.replay.specs.Consistent.{AreConsistent, is_torn}
 use Rattle.replay.specs.Ends.{End}
 use Rattle.replay.specs.Replaying.{Replayed, IsFault}
 use Rattle.node_threads.specs.Wires.{Wired}
-use Rattle.node_threads.specs.Closing.{GivesBack, Replays, CloseIs}
+use Rattle.node_threads.specs.Closing.{GivesBack, Replays, StopsAlone, CloseIs}
+use Rattle.node_threads.proofs.Stopping.{least_fails, such_in_order}
 
 module _ {N M : Type 0} (cluster lone : List ℕ) (crew : List Wired) (ts : List Transcript) where
   replays : (ends : List End) (result : Result (Closed N M) CloseFault)
@@ -17,6 +19,15 @@ module _ {N M : Type 0} (cluster lone : List ℕ) (crew : List Wired) (ts : List
       → Replays cluster lone crew ts ends result
   replays ends (Ok closed) ok err = ok
   replays ends (Err fault) ok err = err
+
+  -- a replay looks for threads that ended alone first
+  stops : (ends : List End) → GivesBack cluster lone crew ends → (result : Result (Closed N M) CloseFault)
+      → Replays cluster lone crew ts ends result → StopsAlone cluster lone crew ts ends result
+  stops ends back (Ok closed) R = such_in_order ends back.left R.ended
+  stops ends back (Err (LeftInHold a)) I = least_fails ends back.left a I
+  stops ends back (Err (Torn a k)) I = such_in_order ends back.left I.0
+  stops ends back (Err (Stranger seat)) I = such_in_order ends back.left I.0
+  stops ends back (Err Memory) I = such_in_order ends back.left I
 
   module _ (ends : List End) (back : GivesBack cluster lone crew ends) (joined others : List ℕ) (lent : List End) (a : joined ≡ cluster) (b : others ≡ lone) (same : lent ≡ ends) (result : Result (Closed N M) CloseFault) where
     -- what a replay was lent
@@ -29,13 +40,12 @@ module _ {N M : Type 0} (cluster lone : List ℕ) (crew : List Wired) (ts : List
     pub closes : IfOk result (λ closed. Replayed joined others lent ts closed.events closed.world)
         → IfErr result (λ fault. IsFault joined others lent ts fault)
         → CloseIs cluster lone crew ts result
-    closes ok err = inl (record {
-      ends = ends;
-      back = back;
-      replays = replays ends result
-          (as_lent (λ js os es. IfOk result (λ closed. Replayed js os es ts closed.events closed.world)) ok)
-          (as_lent (λ js os es. IfErr result (λ fault. IsFault js os es ts fault)) err);
-    })
+    closes ok err =
+        let played : Replays cluster lone crew ts ends result = replays ends result
+        (as_lent (λ js os es. IfOk result (λ closed. Replayed js os es ts closed.events closed.world)) ok)
+        (as_lent (λ js os es. IfErr result (λ fault. IsFault js os es ts fault)) err)
+        in
+        inl (record { ends = ends; back = back; replays = played; alone = stops ends back result played })
 
     -- it is whole
     pub never_torn : IfErr result (λ fault. is_torn fault ≡ true → AreConsistent joined others lent → ⊥)

@@ -17,6 +17,7 @@ mod Seats
 pub mod Rows
 mod Standings
 mod Gathering
+mod Stopping
 mod Comparing
 mod Pairs
 mod Consistency

@@ -1,5 +1,5 @@
 -- A node's loop over its end stays sound, turn by turn, and its thread gives back what tells of it.
-use Rattle.std.proofs.Common.{true, false, ◌≡◌, inl, inr, List, [], map, Ok, Err, is_ok, sym, ap, subst, ◌∙◌}
+use Rattle.std.proofs.Common.{true, false, ◌≡◌, inl, inr, List, [], map, Ok, Err, is_ok, refl, sym, ap, subst, ◌∙◌}
 use Rattle.protocol_model.specs.World.{Opening}
 use Rattle.link.specs.declared.mailbox.Mailbox.{Mailbox}
 use Rattle.link.specs.Mailboxes.{taken, mailbox_room}
@@ -12,6 +12,8 @@ use Rattle.node_loop.specs.Sound.{IsSound, EndsSound, Tells, LeavesSound}
 use Rattle.node_loop.proofs.Standing.{besides}
 use Rattle.node_seats.specs.declared.parcel.Parcel.{Parcel}
 use Rattle.node_seats.specs.Lines.{Sent}
+use Rattle.node_seats.specs.declared.host.Stop.{Stop}
+use Rattle.node_seats.specs.Stops.{ends_alone}
 use Rattle.replay.specs.Ends.{End}
 use Rattle.node_threads.specs.declared.ruled_end.Traffic.{Traffic}
 use Rattle.node_threads.specs.Givers.{receivers, letters_of}
@@ -20,6 +22,7 @@ use Rattle.node_threads.specs.Wires.{unused}
 use Rattle.node_threads.specs.Ends.{are_inside, leads_inside, fixed}
 use Rattle.node_threads.specs.Dealings.{sent_to, taken_from, dealt_of, dealt_by}
 use Rattle.node_threads.specs.Soundness.{IsSoundAt, StaysSound, LastsSound, IsBesides}
+use Rattle.node_threads.specs.Stops.{StopsSo}
 use Rattle.node_threads.specs.Ended.{IsEndOf}
 use Rattle.node_threads.proofs.Lines.{receivers_unused}
 
@@ -59,8 +62,9 @@ ends_behind a s b t c u stays ends o here = ends o (stays o here)
 -- What a thread gives back: it began with the loop a and an end that stood as s, and behind its last turn they were b and t
 module _ (a : Looping) (lines : List (Sent Item)) (mailbox : Mailbox (Parcel Item)) (s : Traffic) (b : Looping) (t : Traffic) (e : End) (rows : List (Sent Item)) (box : Mailbox (Parcel Item))
     (first : s ≡ begun a.log.node lines mailbox)
-    (came : IsLoopOf a.log.node b) (node : b.log.node ≡ a.log.node) (sound : LastsSound a s b t) (same : fixed t ≡ fixed s)
-    (log : written e.log ≡ b.log) (table : e.table ≡ b.core.table) (left : b.left ≡ true → e.ended_alone ≡ false) (leaves : LeavesSound b (written e.log) e.table)
+    (began : IsLoopOf a.log.node a) (came : IsLoopOf a.log.node b) (node : b.log.node ≡ a.log.node) (sound : LastsSound a s b t) (same : fixed t ≡ fixed s)
+    (log : written e.log ≡ b.log) (table : e.table ≡ b.core.table) (stop : Stop) (stopped : StopsSo stop a b)
+    (alone : e.ended_alone ≡ ends_alone stop b.left) (leaves : LeavesSound b (written e.log) e.table)
     (row : rows ≡ t.lines) (took : letters_of (receivers t.lines) (taken box) ≡ t.letters) (room : mailbox_room box ≡ mailbox_room t.first) where
   t_node : t.node ≡ a.log.node
   t_node = ap (λ (x : Traffic). x.node) same ∙ ap (λ (x : Traffic). x.node) first
@@ -89,8 +93,13 @@ module _ (a : Looping) (lines : List (Sent Item)) (mailbox : Mailbox (Parcel Ite
       node = ap (λ w. w.node) log ∙ node;
       log = log;
       table = table;
-      left = left;
+      first = a;
+      began = began;
+      stop = stop;
+      stopped = stopped;
+      alone = alone;
     };
+    first = refl;
     kept = ap (map unused) row ∙ t_lines;
     room = room ∙ ap mailbox_room t_first;
     tells = λ o inside begun. subst (Tells o (written e.log) e.table) dealt

@@ -22,8 +22,9 @@ use Rattle.node_threads.specs.Ends.{are_inside}
 use Rattle.node_threads.specs.Dealings.{dealt_by}
 use Rattle.node_threads.specs.Starts.{IsAtStart, Publishes}
 use Rattle.node_threads.specs.Drawing.{Drawn}
-use Rattle.node_threads.specs.Ended.{IsLeftBy, IsEndOf, Returns}
+use Rattle.node_threads.specs.Ended.{IsEndOf, Returns}
 use Rattle.node_threads.proofs.Dealing.{deals_nothing}
+use Rattle.node_threads.proofs.Stopping.{named}
 
 -- nothing is owed to the readers of a node that took no step
 pub publishes_first : (nodes cluster : List ℕ) (a : Looping) (p : Progress) (name : ℕ) (core : Held) → a ≡ begun core
@@ -60,7 +61,8 @@ module _ (inbox : Inbox) (a : Looping) (lines : List (Sent Item)) (mailbox : Mai
   pub returns_so : (w : Wired) (d : Drawn) → record { inbox = inbox; core = a.core; lines = lines } ≡ w
       → d ≡ record { inbox = inbox; taken = taken box } → Returns w e rows d
   returns_so w d is drawn = subst (λ (x : Wired). Returns x e rows d) is (record {
-    left = subst (λ (n : ℕ). IsLeftBy n e) S.node E.left;
+    left = named e a.log.node inbox.node (E.left.node ∙ S.node) S.node E.left;
+    first = ap (λ (x : Looping). x.core) E.first;
     kept = E.kept ∙ S.fresh;
     inbox = ap (λ (x : Drawn). x.inbox) drawn;
     tells = λ o of opens inside.

@@ -29,6 +29,7 @@ use Rattle.node_threads.specs.Wires.{Wired}
 use Rattle.node_threads.specs.Ended.{owner}
 use Rattle.node_threads.specs.Closing.{GivesBack}
 use Rattle.node_threads.specs.Ending.{steps_in, AreWell, last_table, table_told, TellsOf, Adds, IsUntold, IsWhy, RanOut, EndIs}
+use Rattle.node_threads.proofs.Stopping.{first_fails, well_in_order}
 
 -- one end more has its steps more
 steps_more : (ends : List End) (e : End) → steps_in (ends ++ e ∷ []) ≡ steps_in ends + length e.log.entries
@@ -183,7 +184,8 @@ module _ {N M : Type 0} (contents : N → Table) (cluster lone : List ℕ) (crew
     ends = ends;
     back = back;
     told = told;
+    order = well_in_order ends back.left told.well;
     run = ran_out contents cluster lone ends ended back.consistent back.names once told;
   }
-  ends_so (Err (LeftInHold a)) told why = (ends, back, why)
+  ends_so (Err (LeftInHold a)) told why = (ends, back, why, first_fails ends back.left a why)
   ends_so (Err Memory) told why = tt

@@ -1,5 +1,5 @@
 -- What threads give back.
-use Rattle.std.specs.Prelude.{ℕ, true, false, ◌≡◌, ◌<◌, List, map, length, slice_index_or}
+use Rattle.std.specs.Prelude.{ℕ, true, false, ◌≡◌, ◌<◌, ◌⊎◌, List, map, length, slice_index_or, Contains}
 use Rattle.protocol_model.specs.World.{Opening}
 use Rattle.link.specs.declared.mailbox.Mailbox.{Mailbox}
 use Rattle.link.specs.Mailboxes.{taken, mailbox_room}
@@ -10,30 +10,53 @@ use Rattle.node_loop.specs.Coming.{IsLoopOf}
 use Rattle.node_loop.specs.Sound.{IsNodeOf, opened, IsSound, Tells}
 use Rattle.node_seats.specs.declared.parcel.Parcel.{Parcel}
 use Rattle.node_seats.specs.Lines.{Sent}
+use Rattle.node_seats.specs.declared.host.Stop.{Stop}
+use Rattle.node_seats.specs.declared.host.Stop.TheVariants.{Asked, Failed}
+use Rattle.node_seats.specs.Stops.{ends_alone}
 use Rattle.replay.specs.Ends.{End}
 use Rattle.node_threads.specs.Givers.{receivers}
 use Rattle.node_threads.specs.Wires.{Wired, name_of, unused}
 use Rattle.node_threads.specs.Ends.{are_inside}
 use Rattle.node_threads.specs.Dealings.{dealt_by}
 use Rattle.node_threads.specs.Drawing.{Drawn}
+use Rattle.node_threads.specs.Stops.{StopsSo}
 
 -- whose end it is
 abbrev pub owner : End → ℕ
 owner e = e.log.node
 
--- the end is what the loop of this node left behind: its log, and its table
+-- The end is what the loop of this node left behind: its log, and its table. Its thread began with such a loop. It ended alone exactly where
+-- its last turn failed, behind turns that all went on, and the node hadn't left
 pub record IsLeftBy (name : ℕ) (e : End) : Type 0 where
   pub loop : Looping
   pub came : IsLoopOf name loop
   pub node : owner e ≡ name
   pub log : written e.log ≡ loop.log
   pub table : e.table ≡ loop.core.table
-  pub left : loop.left ≡ true → e.ended_alone ≡ false
+  pub first : Looping
+  pub began : IsLoopOf name first
+  pub stop : Stop
+  pub stopped : StopsSo stop first loop
+  pub alone : e.ended_alone ≡ ends_alone stop loop.left
+
+-- of these ends one is this node's, the last turn of whose thread failed where the node hadn't left
+pub record FailsAlone (ends : List End) (a : ℕ) : Type 0 where
+  pub end : End
+  pub among : Contains ends end
+  pub left : IsLeftBy a end
+  pub failed : left.stop ≡ Failed
+  pub stays : left.loop.left ≡ false
+
+-- the thread didn't end alone: each of its turns went on until it was asked to end, or the node had left
+pub record EndsInOrder (e : End) : Type 0 where
+  pub left : IsLeftBy (owner e) e
+  pub order : (left.stop ≡ Asked) ⊎ (left.loop.left ≡ true)
 
 -- The thread of this loop, with these lines and this end of an inbox, gives back what the loop left behind, and both. The lines and
 -- the inbox are those that it began with; and in each world in which it began sound, its log and its table tell of its node
 pub record IsEndOf (a : Looping) (lines : List (Sent Item)) (mailbox : Mailbox (Parcel Item)) (e : End) (rows : List (Sent Item)) (box : Mailbox (Parcel Item)) : Type 0 where
   pub left : IsLeftBy a.log.node e
+  pub first : left.first ≡ a
   pub kept : map unused rows ≡ map unused lines
   pub room : mailbox_room box ≡ mailbox_room mailbox
   pub tells : (o : Opening) → are_inside o a.log.node (receivers lines) ≡ true
@@ -43,6 +66,7 @@ pub record IsEndOf (a : Looping) (lines : List (Sent Item)) (mailbox : Mailbox (
 -- so the thread of a node, which started so
 pub record Returns (w : Wired) (end : End) (lines : List (Sent Item)) (d : Drawn) : Type 0 where
   pub left : IsLeftBy (name_of w) end
+  pub first : left.first.core ≡ w.core
   pub kept : map unused lines ≡ w.lines
   pub inbox : d.inbox ≡ w.inbox
   pub tells : (o : Opening) → IsNodeOf o w.core → node_of w.core ≡ opened o w.core

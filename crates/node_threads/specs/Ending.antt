@@ -1,5 +1,5 @@
 -- What ending a cluster comes to, whether its steps were kept or not.
-use Rattle.std.specs.Prelude.{ℕ, true, ◌≡◌, ◌+◌, ◌++◌, List, [], ◌∷◌, map, length, Result, Ok, Err}
+use Rattle.std.specs.Prelude.{ℕ, true, All, ◌≡◌, ◌+◌, ◌++◌, List, [], ◌∷◌, map, length, Result, Ok, Err}
 use Rattle.registry_model.specs.Table.{Table}
 use Rattle.protocol_model.specs.Leftovers.{NothingIsLeft}
 use Rattle.protocol_model.specs.World.{Opening}
@@ -15,7 +15,7 @@ use Rattle.node_threads.specs.declared.ending.EndedCluster.{EndedCluster}
 use Rattle.node_threads.specs.declared.ending.EndFault.{EndFault}
 use Rattle.node_threads.specs.declared.ending.EndFault.TheVariants.{LeftInHold, Memory}
 use Rattle.node_threads.specs.Wires.{Wired}
-use Rattle.node_threads.specs.Ended.{owner}
+use Rattle.node_threads.specs.Ended.{owner, FailsAlone, EndsInOrder}
 use Rattle.node_threads.specs.Closing.{GivesBack}
 
 -- how many steps these ends tell of
@@ -84,15 +84,16 @@ IsWhy (LeftInHold a) ends = EndsAlone ends a
 IsWhy Memory ends = Unit {0}
 
 module _ {N M : Type 0} (contents : N → Table) (cluster lone : List ℕ) (crew : List Wired) where
-  -- The threads of these nodes gave back these ends, which are told of; the world has a run of them
+  -- The threads of these nodes gave back these ends, which are told of; none ended alone, and the world has a run of them
   pub record Ends (ended : EndedCluster N M) : Type 0 where
     pub ends : List End
     pub back : GivesBack cluster lone crew ends
     pub told : TellsOf contents ends ended
+    pub order : All EndsInOrder ends
     pub run : RanOut cluster lone ends ended.events
 
-  -- so, or the first that ended alone is this node's, or memory was refused
+  -- so, or the first that ended alone is this node's, and the last turn of its thread failed, or memory was refused
   abbrev pub EndIs : Result (EndedCluster N M) EndFault → Type 0
   EndIs (Ok ended) = Ends ended
-  EndIs (Err (LeftInHold a)) = (ends : List End) × GivesBack cluster lone crew ends × EndsAlone ends a
+  EndIs (Err (LeftInHold a)) = (ends : List End) × GivesBack cluster lone crew ends × EndsAlone ends a × FailsAlone ends a
   EndIs (Err Memory) = Unit {0}

@@ -14,6 +14,7 @@ pub mod Ends
 pub mod Dealings
 pub mod Soundness
 pub mod Starts
+pub mod Stops
 pub mod Drawing
 pub mod Ended
 pub mod Closing

@@ -288,7 +288,7 @@ where
 
     /// Asks all threads to end, waits until they have, and tells of what they left behind without a replay, so that their steps needn't
     /// have been kept. Where it answers `Ok` the run of the threads was one of the world's: it has so many steps, and these tables behind
-    /// them. `LeftInHold`: the thread of that node, the first such, ended without a leave and without being asked to. Calls that still
+    /// them. `LeftInHold`: the last turn of the thread of that node, the first such, failed, and the node hadn't left. Calls that still
     /// wait at a seat are answered `Closed`. What seats were answered isn't compared, as `close` does it with their transcripts.
     pub fn end<R: Threads>(self, rt: &R) -> Result<EndedCluster<N>, EndFault>
         ensures { EndIs N.contents self.cluster self.lone self.crew result }

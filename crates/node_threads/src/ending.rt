@@ -21,7 +21,7 @@ pub struct EndedCluster<N: Names> {
 /// Why it isn't told what a cluster came to.
 #[derive(Debug, PartialEq, Eq, Error, Drop)]
 pub enum EndFault {
-    /// The thread of this node ended without a leave and without being asked to.
+    /// The last turn of this node's thread failed, and the node hadn't left.
     #[error("left_in_hold {0}")]
     LeftInHold(Node),
     /// Memory was refused, or there were more steps than a `u64` can tell.

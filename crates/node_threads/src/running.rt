@@ -8,6 +8,7 @@ ghost use Rattle.node_threads.specs.Starts.{IsAtStart, Publishes};
 ghost use Rattle.node_threads.specs.Ends.{fixed};
 ghost use Rattle.node_threads.specs.Soundness.{StaysSound, LastsSound, IsBesides};
 ghost use Rattle.node_threads.specs.Ended.{IsEndOf};
+ghost use Rattle.node_threads.specs.Stops.{CameTo, StopsSo};
 ghost use Rattle.replay.specs.Ends.{end_by};
 
 use crate::intake::Intake;
@@ -16,7 +17,7 @@ use link::Mailbox;
 use name_table::Names;
 use node_loop::{Gate, Item, NodeEnd, NodeLoop, Record, TurnFault};
 use node_seats::{
-    Address, Caller, Host, Hub, KeptPublisher, Line, NodeStatus, Parcel, Place, SLOTS, SeatFault,
+    Address, Caller, Host, Hub, KeptPublisher, Line, NodeStatus, Parcel, Place, SLOTS, SeatFault, Stop,
 };
 use std::alloc::{AllocError, Global};
 use std::marker::Model;
@@ -108,6 +109,7 @@ fn turn<G: Gate, N: Names<Memory = Global>, L: Record, R: Wait + Drop>(
 ) -> Result<(), TurnFault>
     ensures node { node.new.log.node ≡ node.old.log.node }
     ensures came { IsLoopOf node.old.log.node node.old → IsLoopOf node.old.log.node node.new }
+    ensures came_to { CameTo result node.old node.new }
     ensures sound { StaysSound node.old end.old result node.new end.new }
     ensures owing { KeepsOwing node.old node.new }
     ensures same { fixed end.new ≡ fixed end.old }
@@ -116,7 +118,9 @@ fn turn<G: Gate, N: Names<Memory = Global>, L: Record, R: Wait + Drop>(
 }
 
 /// Tells how the node stands, where its last turn did something.
-fn tell<N: Names<Memory = Global>, L: Record>(node: &NodeLoop<N, L>, host: &Host) {
+fn tell<N: Names<Memory = Global>, L: Record>(node: &NodeLoop<N, L>, host: &Host)
+    requires { IsLoopOf node.now.log.node node.now }
+{
     if node.worked() {
         host.tell(node);
     }
@@ -143,8 +147,8 @@ fn show<N: Names<Memory = Global>, L: Record, R: Wait + Drop>(
     (publisher, shown)
 }
 
-/// The node takes one turn after another, until it is asked to end or can't go on. Behind each its readers are shown what it did, and its
-/// replies are handed out; where one did nothing the thread rests.
+/// The node takes one turn after another, until it is asked to end or a turn fails, and gives back which. Behind each its readers are shown
+/// what it did, and its replies are handed out; where one did nothing the thread rests.
 fn turns<G: Gate, N: Names<Memory = Global>, L: Record, R: Wait + Clock + Drop>(
     rt: &R,
     node: &mut NodeLoop<N, L>,
@@ -152,29 +156,30 @@ fn turns<G: Gate, N: Names<Memory = Global>, L: Record, R: Wait + Clock + Drop>(
     gate: &G,
     host: &mut Host,
     publisher: KeptPublisher<R>,
-) -> KeptPublisher<R>
+) -> (KeptPublisher<R>, Stop)
     requires came { IsLoopOf node.old.log.node node.old }
     requires publishes { Publishes node.old publisher.publisher }
     ensures node { node.new.log.node ≡ node.old.log.node }
     ensures came { IsLoopOf node.old.log.node node.new }
+    ensures stops { StopsSo result.1 node.old node.new }
     ensures sound { LastsSound node.old end.old node.new end.new }
     ensures same { fixed end.new ≡ fixed end.old }
 {
     let mut publisher = publisher;
     for _ in rt.forever() {
         if host.is_closing() {
-            return publisher;
+            return (publisher, Stop::Asked);
         }
         let outcome = turn(node, end, gate);
         tell(node, host);
         let (next, shown) = show(rt, node, host, publisher);
         publisher = next;
         if outcome.is_err() {
-            return publisher;
+            return (publisher, Stop::Failed);
         }
         host.rest(rt, node, shown);
     }
-    publisher
+    unreachable!()
 }
 
 /// A node's thread, from its first turn to its end. The table is read until the cluster is over, however the thread ended.
@@ -196,9 +201,9 @@ fn run<G: Gate + Drop, N: Names<Memory = Global>, L: Record, R: Wait + Clock + D
     } = work;
     let alloc = *lines.allocator();
     let mut end = RuledEnd::new(*rt, alloc, node.node().copy(), lines, mailbox);
-    let publisher = turns(rt, &mut node, &mut end, &*gate, &mut host, publisher);
+    let (publisher, stop) = turns(rt, &mut node, &mut end, &*gate, &mut host, publisher);
     let (lines, mailbox) = end.into_parts();
-    let end = host.end(node);
+    let end = host.end(node, stop);
     host.stay(rt);
     drop(publisher);
     Ended {

@@ -9,6 +9,6 @@ returns g c = gives_back c.args.work.node c.args.work.lines.items c.args.work.ma
     c.turns-publisher.new.end (end_by g.N.Names.contents g.L.Record.logged c.end-end.result) c.into_parts-lines.result.0.items c.into_parts-lines.result.1
     (c.new-end.ensures
     ∙ ap (λ (n : ℕ). begun n c.args.work.lines.items c.args.work.mailbox) (c.copy.ensures ∙ c.node.ensures))
-    c.turns-publisher.ensures.came c.turns-publisher.ensures.node c.turns-publisher.ensures.sound c.turns-publisher.ensures.same c.end-end.ensures.log c.end-end.ensures.table
-    c.end-end.ensures.ended_alone c.end-end.ensures.sound c.into_parts-lines.ensures.lines c.into_parts-lines.ensures.letters
+    c.requires.came c.turns-publisher.ensures.came c.turns-publisher.ensures.node c.turns-publisher.ensures.sound c.turns-publisher.ensures.same c.end-end.ensures.log c.end-end.ensures.table
+    c.turns-publisher.result.1 c.turns-publisher.ensures.stops c.end-end.ensures.ended_alone c.end-end.ensures.sound c.into_parts-lines.ensures.lines c.into_parts-lines.ensures.letters
     c.into_parts-lines.ensures.room

@@ -4,7 +4,7 @@ use Rattle.node_threads.specs.Ends.{leads_inside, fixed}
 use Rattle.node_threads.specs.Dealings.{dealt_of}
 use Rattle.node_threads.specs.Traffics.{Posts, Refuses, Takes, Misses}
 use Rattle.node_loop.proofs.Moving.{turn_of}
-use Rattle.node_threads.proofs.Coming.{comes_by_turn}
+use Rattle.node_threads.proofs.Coming.{comes_by_turn, came_to}
 use Rattle.node_threads.proofs.Dealing.{deals, fixed_by_post, fixed_by_taking}
 use Rattle.node_threads.proofs.Turns.{turned}
 use Rattle.node_threads.proofs.running.turn.Goals as goal
@@ -14,6 +14,9 @@ returns-clause-node g c = turned _ _ _ refl (turn_of Posts Refuses Takes Misses 
 
 pub returns-clause-came : goal.returns-clause-came
 returns-clause-came g c = comes_by_turn Posts Refuses Takes Misses _ _ _ _ _ _ _ c.turn.ensures.turned
+
+pub returns-clause-came_to : goal.returns-clause-came_to
+returns-clause-came_to g c = came_to Posts Refuses Takes Misses _ _ _ _ _ _ c.turn.ensures.turned
 
 pub returns-clause-sound : goal.returns-clause-sound
 returns-clause-sound g c = λ o here. c.turn.ensures.sound o (leads_inside o) dealt_of (deals o) here.0 here.1

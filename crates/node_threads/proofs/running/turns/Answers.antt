@@ -1,4 +1,4 @@
-use Rattle.std.proofs.Common.{ℕ, not, ap, subst, ◌∙◌}
+use Rattle.std.proofs.Common.{ℕ, suc, not, ap, subst, ◌∙◌}
 use Rattle.node_loop.specs.Coming.{IsLoopOf}
 use Rattle.node_threads.proofs.Soundness.{ends_on, ends_behind, sound_on, sound_to_end}
 use Rattle.node_threads.proofs.running.turns.Goals as goal
@@ -16,6 +16,37 @@ loop-preserved g c = (
       c.turn-outcome.result c.turn-outcome.ensures.sound (c.is_err.ensures.negation ∙ ap not c.if-is_err.false) o (c.loop.invariant.4 o here),
   c.turn-outcome.ensures.same ∙ c.loop.invariant.5,
   c.show-next.ensures.publishes,
+  (
+    suc c.loop.invariant.7.0,
+    (
+      c.loop.node,
+      c.loop.invariant.7.1,
+      record {
+        behind = c.turn-outcome.new.node;
+        outcome = c.turn-outcome.result;
+        turn = c.turn-outcome.ensures.came_to;
+        went = c.is_err.ensures.negation ∙ ap not c.if-is_err.false;
+        besides = c.show-next.ensures.kept;
+      },
+    ),
+  ),
+)
+
+pub returns-then-is_closing-clause-stops : goal.returns-then-is_closing-clause-stops
+returns-then-is_closing-clause-stops g c = c.loop.invariant.7
+
+pub returns-then-is_err-clause-stops : goal.returns-then-is_err-clause-stops
+returns-then-is_err-clause-stops g c = (
+  c.loop.invariant.7.0,
+  c.loop.node,
+  c.loop.invariant.7.1,
+  record {
+    behind = c.turn-outcome.new.node;
+    outcome = c.turn-outcome.result;
+    turn = c.turn-outcome.ensures.came_to;
+    went = c.is_err.ensures.negation ∙ ap not c.if-is_err.true;
+    besides = c.show-next.ensures.kept;
+  },
 )
 
 pub returns-then-is_err-clause-sound : goal.returns-then-is_err-clause-sound
