@@ -17,7 +17,8 @@ use link::Mailbox;
 use name_table::Names;
 use node_loop::{Gate, Item, NodeEnd, NodeLoop, Record, TurnFault};
 use node_seats::{
-    Address, Caller, Host, Hub, KeptPublisher, Line, NodeStatus, Parcel, Place, SLOTS, SeatFault, Stop,
+    Address, Caller, Host, Hub, KeptPublisher, Line, NodeStatus, Parcel, Place, SLOTS, SeatFault,
+    Stop,
 };
 use std::alloc::{AllocError, Global};
 use std::marker::Model;
