@@ -4,3 +4,4 @@ mod Leaving
 mod LockCalls
 pub mod Meaning
 mod Talking
+pub mod Unasked

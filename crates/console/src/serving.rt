@@ -3,8 +3,10 @@ ghost use Rattle.std.specs.Prelude.{◌≡◌, false, true, IfErr, IfOk, IfSome,
 ghost use Rattle.std.specs.Io.Buffered.{reader_remaining};
 ghost use Rattle.text_lines.specs.Lines.{most_lines};
 ghost use Rattle.node_seats.specs.Callers.{IsEnd};
+ghost use Rattle.node_seats.specs.Faults.{IsUnmade};
 ghost use Rattle.node_seats.specs.Seats.{Sitting};
 ghost use Rattle.console.specs.Clients.{is_given_up};
+ghost use Rattle.console.specs.Locking.{is_lock_call as any_lock_call};
 ghost use Rattle.console.specs.Consoles.{EndsBy, Serves, Stops, most_staying};
 ghost use Rattle.console.specs.Seats.{SeatAnswers, SeatGives, SeatStands, IsTranscript};
 ghost use Rattle.console.specs.declared.orders.Order.TheVariants.{Call as Calls, Whereis, Exit, Leave};
@@ -155,6 +157,7 @@ impl<'a, T: Notes, C: Client + Drop, B> ClientSeat<'a, T, C, B> {
     }
 
     /// Asks for a lock once its turn has come. It leaves its line when it is answered or given up.
+    #[tactic(auto, using(crate::proofs::Unasked::refused))]
     fn set_in_turn<H: Wait + Clock>(
         &mut self,
         rt: &H,
@@ -164,6 +167,7 @@ impl<'a, T: Notes, C: Client + Drop, B> ClientSeat<'a, T, C, B> {
     ) -> Result<Reply, SeatFault>
     where
         B: House<H>,
+        requires { any_lock_call call ≡ true }
         ensures { SeatGives self.old.seat (Calls call) result self.new.seat }
     {
         let turn = self.await_turn(rt, request, linked)?;
@@ -183,6 +187,7 @@ impl<'a, T: Notes, C: Client + Drop, B> ClientSeat<'a, T, C, B> {
     ) -> Result<Reply, SeatFault>
     where
         B: House<H>,
+        requires { any_lock_call call ≡ true }
         ensures { SeatGives self.old.seat (Calls call) result self.new.seat }
     {
         if matches!(call, Call::SetLock(..)) {
@@ -193,6 +198,7 @@ impl<'a, T: Notes, C: Client + Drop, B> ClientSeat<'a, T, C, B> {
     }
 
     /// Waits in the line of a lock until the turn of a call has come, or until nobody waits for the call any more.
+    #[tactic(auto, using(crate::proofs::Unasked::ended))]
     fn await_turn<H: Wait + Clock>(
         &self,
         rt: &H,
@@ -201,7 +207,7 @@ impl<'a, T: Notes, C: Client + Drop, B> ClientSeat<'a, T, C, B> {
     ) -> Result<Turn, SeatFault>
     where
         B: House<H>,
-        ensures { IfErr result IsEnd }
+        ensures { IfErr result (λ fault. IsUnmade fault true) }
     {
         let lines = self.house.lines();
         let turn = lines.enter(rt, request)?;
@@ -229,6 +235,7 @@ impl<'a, T: Notes, C: Client + Drop, B> ClientSeat<'a, T, C, B> {
     }
 
     /// Asks for a lock, and tells the house what the process may have by it.
+    #[tactic(auto, using(crate::proofs::Unasked::refused))]
     fn set_lock<H: Wait + Clock>(
         &mut self,
         rt: &H,
@@ -238,6 +245,7 @@ impl<'a, T: Notes, C: Client + Drop, B> ClientSeat<'a, T, C, B> {
     ) -> Result<Reply, SeatFault>
     where
         B: House<H>,
+        requires { any_lock_call call ≡ true }
         ensures { SeatGives self.old.seat (Calls call) result self.new.seat }
     {
         let waiting = Waiting {
