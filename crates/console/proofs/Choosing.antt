@@ -12,4 +12,4 @@ pub names_said : {S A F : Type 0} (answers : Answering S) (bytes_of : A → List
     (r : Result A F) → answers s (Call RegisteredNames) false outcome t → IfOk r (λ line. bytes_of line ≡ chosen_text prefix outcome)
     → MatchResult r (λ line. ChoosesNames answers prefix s (bytes_of line) t) (λ _. (text : List ℕ) × ChoosesNames answers prefix s text t)
 names_said answers bytes_of prefix s t outcome (Ok line) asked says = (outcome, asked, says)
-names_said answers bytes_of prefix s t outcome (Err _) asked says = (chosen_text prefix outcome, outcome, asked, refl)
+names_said answers bytes_of prefix s t outcome (Err _) asked says = (chosen_text prefix outcome, (outcome, asked, refl))
