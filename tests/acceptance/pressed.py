@@ -3,7 +3,6 @@ are out."""
 
 import fcntl
 import os
-import re
 import resource
 import subprocess
 import tempfile
@@ -11,9 +10,9 @@ import time
 from contextlib import suppress
 from functools import partial
 
-from .outcomes import Failure, Test, expect_same, expect_status, shown
+from .outcomes import Failure, Test, expect_same, expect_status
 from .programs import run
-from .served import PIPES, Console, Served, listen_to, wait_for
+from .served import PIPES, Console, Served, listen_to
 from .talks import hears
 from .waits import OVER_TCP, attach, shut_down, until_there_is_a_place
 
@@ -188,32 +187,6 @@ def under(limits, words):
     return ["sh", "-c", f'ulimit {limits} && exec "$@"', "sh", *words]
 
 
-class Limited(Served):
-    """One that may have sixteen descriptors open."""
-
-    def start(self, words):
-        super().start(under("-n 16", words))
-
-
-def few_descriptors_at_the_start(program):
-    """Where there are too few descriptors for all consoles the server says for how many they serve, and these are served at once."""
-    with Limited(program, ["--stay", "--nodes", "a", "--consoles", "16"]) as served:
-        seconds = program.seconds
-        wait_for(served.process.stderr, time.monotonic() + seconds, "line on standard error")
-        line = served.process.stderr.readline()
-        found = re.fullmatch(rb"descriptors for (\d+) of 16 consoles\n", line)
-        if not found or not 4 <= int(found[1]) < 16:
-            raise Failure(f"expected for how many consoles the descriptors serve, got {shown(line)}")
-        consoles = [Console(served) for _ in range(int(found[1]))]
-        for console in consoles:
-            expect_same("an answer", b"ok", hears(console, attach(), seconds))
-        status = hears(consoles[-1], b"status", seconds).split()
-        expect_same("how many consoles there are", found[1], status[16])
-        if int(status[20]) == 0:
-            raise Failure("there is no descriptor left to see how much memory it has")
-        shut_down(served, consoles[0], seconds)
-
-
 def threads_that_cannot_be_had(program):
     """A server that stays whose threads can't be had, for want of room for their stacks, says so, and doesn't say that it listens."""
     with tempfile.TemporaryDirectory(prefix="pressed-") as folder:
@@ -235,7 +208,6 @@ def tests(program, root):
         lines_in_one_piece_are_answered,
         answers_before_a_lock_that_waits,
         few_descriptors,
-        few_descriptors_at_the_start,
         threads_that_cannot_be_had,
     ]:
         yield Test(f"pressed/{test.__name__}", partial(test, program))

@@ -55,8 +55,6 @@ pub(crate) enum Note {
     TooMany,
     /// A connection couldn't be taken.
     AcceptFailed,
-    /// The descriptors that are left serve for so many consoles, and so many were to be served.
-    FewDescriptors(u64, u32),
     /// Nine tenths of these numbers of a node are given.
     Spent(Supply, Node),
 }
@@ -134,9 +132,6 @@ fn push_note(text: &mut String, note: &Note) -> Result<(), AllocError>
         Note::NotAttached(console) => write!(text, "console {console} not_attached"),
         Note::TooMany => text.push_str("too_many_consoles"),
         Note::AcceptFailed => text.push_str("accept failed"),
-        Note::FewDescriptors(served, wanted) => {
-            write!(text, "descriptors for {served} of {wanted} consoles")
-        }
         Note::Spent(Supply::Calls, node) => write!(text, "calls of {node}: 90 % spent"),
         Note::Spent(Supply::Serials, node) => write!(text, "serials of {node}: 90 % spent"),
     }
