@@ -5,4 +5,3 @@ mod Joining
 mod Closing
 mod Reseating
 mod Posting
-mod Welcoming

@@ -1,5 +1,5 @@
 -- The lines on which a server that stays tells what happens.
-use Rattle.std.specs.Prelude.{ℕ, Bool, true, false, nat_lt, ◌-◌, if◌then◌else◌, Option, Some, None, List, ◌∷◌, ◌++◌, codes, Result, Ok, Err}
+use Rattle.std.specs.Prelude.{ℕ, Bool, true, false, Option, Some, None, List, ◌∷◌, ◌++◌, codes, Result, Ok, Err}
 use Rattle.std.specs.Fmt.{decimal}
 use Rattle.term.specs.Spelling.{name_bytes, node_bytes}
 use Rattle.text_lines.specs.declared.faults.StreamFault.{StreamFault}

@@ -102,11 +102,10 @@ where
 }
 
 /// Runs a cluster of threads and serves consoles until one of them asks for the end by the line `shutdown`: those of `cluster` are
-/// joined with each other, and each of `lone` stands for itself. As many consoles are attached at once as the options say, and others are told
-/// `error too_many_consoles`; with none at all nobody can ask for the end. A connection counts for none of them before its first line has let
-/// it in: sixteen more are served at once, each in a thread of its own. Each console has a seat while it lasts, behind a first line that shows
-/// the cookie, if there is one. The nodes keep none of their steps. A connection that couldn't be taken ends nothing. What happens is told on
-/// `errors`, whose faults are passed over.
+/// joined with each other, and each of `lone` stands for itself. It serves as many connections at once as the options say, in as many
+/// threads, and tells others `error too_many_consoles`; with none at all nobody can ask for the end. Each console has a seat while it
+/// lasts, behind a first line that shows the cookie, if there is one. The nodes keep none of their steps. A connection that couldn't be
+/// taken ends nothing. What happens is told on `errors`, whose faults are passed over.
 ///
 /// Once all its threads are there the line `listening` is written. At the end connections are ended, calls that wait are answered `closed`,
 /// and one line is written that tells what the cluster came to: `closed` with the number of events, and then the result is true; or

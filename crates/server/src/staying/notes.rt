@@ -51,7 +51,7 @@ pub(crate) enum Note {
     Parted(u64, NodeName, Parting),
     /// A console was attached to no node: its number.
     NotAttached(u64),
-    /// There was no place for a connection that came, or for the console that its first line was to attach.
+    /// A connection came while no worker was free.
     TooMany,
     /// A connection couldn't be taken.
     AcceptFailed,
