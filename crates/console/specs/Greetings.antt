@@ -86,6 +86,13 @@ abbrev pub node_in : Result ℕ GreetFault → Option ℕ
 node_in (Ok n) = Some n
 node_in (Err f) = None
 
+-- a first line was read, and nothing behind it, and this is to be answered, if there is a place for whom it attaches
+pub record ReadsFirst (cookie : Option (List ℕ)) (nodes : List ℕ) (input rest old new : Option (List ℕ)) (answer : Result ℕ GreetFault) : Type 0 where
+  pub line : List ℕ
+  pub read : LosesLines input rest (line ∷ [])
+  pub attaches : LineAttaches cookie nodes line answer
+  pub kept : Keeps old new
+
 -- a first line was read, and nothing behind it; it was answered
 pub record AnswersFirst (cookie : Option (List ℕ)) (nodes : List ℕ) (input rest old new : Option (List ℕ)) (found : Option ℕ) : Type 0 where
   pub line : List ℕ

@@ -9,7 +9,7 @@ use term::TextFault;
 
 /// Why the first line of a console attaches it to no node.
 #[derive(Debug, Drop)]
-pub(crate) enum GreetFault {
+pub enum GreetFault {
     /// It can't be read, or its text is no node's name.
     Line(LineFault),
     /// It doesn't show the cookie that is asked for.
@@ -18,6 +18,8 @@ pub(crate) enum GreetFault {
     NotAttached,
     /// There is no such node.
     NoSuchNode,
+    /// There is no place for one more console.
+    TooManyConsoles,
 }
 
 impl From<TextFault> for GreetFault {
@@ -48,6 +50,7 @@ impl GreetFault {
             GreetFault::NotAllowed => "error not_allowed\n",
             GreetFault::NotAttached => "error not_attached\n",
             GreetFault::NoSuchNode => "error no_such_node\n",
+            GreetFault::TooManyConsoles => "error too_many_consoles\n",
         }
     }
 }

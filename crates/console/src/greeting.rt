@@ -1,11 +1,11 @@
 //! The first line of a console.
-ghost use Rattle.std.specs.Prelude.{◌≡◌, ℕ, List, Some, None, true, map, string_bytes, option_map, IfOk, IfSome, MatchResult};
+ghost use Rattle.std.specs.Prelude.{◌≡◌, ℕ, List, Some, None, true, map, string_bytes, option_map, IfOk, IfSome, MatchOption, MatchResult};
 ghost use Rattle.term.specs.NodeSets.{set_of};
 ghost use Rattle.std.specs.Io.Buffered.{reader_remaining};
 ghost use Rattle.text_lines.specs.Lines.{IsKept};
 ghost use Rattle.text_lines.specs.Writing.{Writes};
 ghost use Rattle.command_lines.specs.Printing.{error_line};
-ghost use Rattle.console.specs.Greetings.{NamesNode, WordsAttach, WordsShow, LineAttaches, Greets, GreetStops, Shows, ShowsFirst, greeting_text, is_shown};
+ghost use Rattle.console.specs.Greetings.{NamesNode, WordsAttach, WordsShow, LineAttaches, Greets, GreetStops, HasNoFirst, ReadsFirst, Shows, ShowsFirst, StopsFirst, greeting_text, is_shown};
 ghost use Rattle.console.specs.Outcomes.{seat_word};
 
 use crate::cookie::Cookie;
@@ -118,8 +118,8 @@ fn greeting_line(alloc: Global, answer: &Result<NodeName, GreetFault>) -> Result
     }
 }
 
-/// Answers a first line.
-fn answer_first<W: Write>(
+/// Answers a first line, by what `read_first` found in it, or where there is no place for the console by that.
+pub fn answer_first<W: Write>(
     alloc: Global,
     writer: &mut W,
     answer: &Result<NodeName, GreetFault>,
@@ -135,6 +135,37 @@ fn hold_up<C: Clock>(rt: &C, answer: &Result<NodeName, GreetFault>) {
     if matches!(answer, Err(GreetFault::NotAllowed)) {
         thread::sleep(rt, Duration::from_secs(DELAY));
     }
+}
+
+/// Reads the first line of a console, and tells what it is to be answered: which of these nodes it names, or why it is refused; nothing where
+/// there is no line. It isn't answered yet. Whatever doesn't show the cookie is told of after a second.
+pub fn read_first<R: Read, W: Write, C: Clock>(
+    rt: &C,
+    alloc: Global,
+    reader: &mut BufReader<R, Global>,
+    writer: &mut W,
+    nodes: &NodeSet,
+    cookie: Option<&Cookie>,
+) -> Result<Option<Result<NodeName, GreetFault>>, StreamFault>
+    ensures reads { MatchResult result
+        (λ found. MatchOption found
+        (HasNoFirst (reader_remaining R.remaining reader.old) (reader_remaining R.remaining reader.new)
+        (W.contents writer.old) (W.contents writer.new) None)
+        (ReadsFirst (option_map (λ c. c.now) cookie.entry) nodes.now (reader_remaining R.remaining reader.old)
+        (reader_remaining R.remaining reader.new) (W.contents writer.old) (W.contents writer.new)))
+        (StopsFirst (reader_remaining R.remaining reader.old) (reader_remaining R.remaining reader.new)
+        (W.contents writer.old) (W.contents writer.new)) }
+    ensures known { IfOk result (λ found. IfSome found (λ answer. IfOk answer (λ node. set_of nodes.now node ≡ true))) }
+    ensures shows { IfOk result (λ found. IfSome found (λ answer. IfOk answer (λ _. ShowsFirst (option_map (λ c. c.now) cookie.entry)
+        (reader_remaining R.remaining reader.old) (reader_remaining R.remaining reader.new)))) }
+{
+    let mut left = MOST_LINES;
+    let Some(line) = read_line(Vec::new(alloc), reader, writer, &mut left)? else {
+        return Ok(None);
+    };
+    let answer = read_greeting(&line, nodes, cookie);
+    hold_up(rt, &answer);
+    Ok(Some(answer))
 }
 
 /// Reads the first line of a console, `attach` with the name of one of these nodes, and answers it: which node it is. Where there is a
@@ -160,12 +191,9 @@ pub fn greet<R: Read, W: Write, C: Clock>(
     ensures shows { IfOk result (λ found. IfSome found (λ _. ShowsFirst (option_map (λ c. c.now) cookie.entry)
         (reader_remaining R.remaining reader.old) (reader_remaining R.remaining reader.new))) }
 {
-    let mut left = MOST_LINES;
-    let Some(line) = read_line(Vec::new(alloc), reader, writer, &mut left)? else {
+    let Some(answer) = read_first(rt, alloc, reader, writer, nodes, cookie)? else {
         return Ok(None);
     };
-    let answer = read_greeting(&line, nodes, cookie);
-    hold_up(rt, &answer);
     answer_first(alloc, writer, &answer)?;
     Ok(answer.ok())
 }

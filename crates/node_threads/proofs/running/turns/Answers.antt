@@ -1,10 +1,13 @@
-use Rattle.std.proofs.Common.{ℕ, suc, not, ap, subst, ◌∙◌}
+use Rattle.std.proofs.Common.{ℕ, suc, not, refl, ap, subst, ◌∙◌}
 use Rattle.node_loop.specs.Coming.{IsLoopOf}
 use Rattle.node_threads.proofs.Soundness.{ends_on, ends_behind, sound_on, sound_to_end}
 use Rattle.node_threads.proofs.running.turns.Goals as goal
 
 pub returns-then-is_closing-clause-sound : goal.returns-then-is_closing-clause-sound
 returns-then-is_closing-clause-sound g c = ends_on c.args.node.now c.args.end.now c.loop.node c.loop.end c.loop.invariant.4
+
+pub loop-init : goal.loop-init
+loop-init g c = (tt, tt, refl, c.requires.came, λ o here. here, refl, c.requires.publishes, (0, refl))
 
 pub loop-preserved : goal.loop-preserved
 loop-preserved g c = (
