@@ -64,6 +64,11 @@ where
     Ok(ending.is_ok())
 }
 
+/// Closes a cluster of which nothing is told.
+fn abandon<R: Threads>(rt: &R, cluster: ServedCluster) {
+    let _ = cluster.close(rt, &[]);
+}
+
 /// Closes a cluster with what its consoles left behind, and tells what it closed with. After a fault nothing is told.
 fn close<R, W>(
     rt: &R,
@@ -84,12 +89,12 @@ where
         Ok(lefts) => match transcripts_of(alloc, lefts) {
             Ok(transcripts) => close_with(rt, alloc, cluster, transcripts.as_slice(), writer),
             Err(_) => {
-                let _ = cluster.close(rt, &[]);
+                abandon(rt, cluster);
                 Err(ServeFault::Memory)
             }
         },
         Err(fault) => {
-            let _ = cluster.close(rt, &[]);
+            abandon(rt, cluster);
             Err(ServeFault::from(fault))
         }
     }
