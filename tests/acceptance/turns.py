@@ -173,10 +173,12 @@ def other_nodes_are_other_lines(program):
 
 
 def shutdown_ends_those_that_wait(program):
-    """The server ends while calls wait: each is answered."""
+    """The server ends while calls wait: each is answered. The lock is a process's that is linked to no console, so it isn't free before."""
     with served_to(program) as served:
         holder, next, last = [Contender(served, name) for name in ["holder", "next", "last"]]
-        holder.takes()
+        process = hears(holder.console, b"spawn", program.seconds)
+        lock = b"set_lock " + process + b" r holder all infinity"
+        expect_same("an answer", b"true", hears(holder.console, lock, program.seconds))
         next.asks()
         last.asks()
         expect_same("an answer", b"ok", hears(holder.console, b"shutdown", program.seconds))
