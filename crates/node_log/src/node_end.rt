@@ -9,6 +9,6 @@ pub struct NodeEnd<N: Names, L = Log> {
     pub log: L,
     /// The table of the node, as its last step left it.
     pub table: N,
-    /// Whether the thread ended without an accepted leave and without being asked to.
+    /// Whether the thread's last turn failed, and the node hadn't left.
     pub ended_alone: bool,
 }

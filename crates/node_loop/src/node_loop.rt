@@ -260,7 +260,7 @@ impl<N: Names<Memory = Global>, L: Record> NodeLoop<N, L> {
         self.left
     }
 
-    /// What the node's thread gives back, and whether it ended without a leave and without being asked to.
+    /// What the node's thread gives back, and whether its last turn failed, and the node hadn't left.
     pub fn into_end(self, ended_alone: bool) -> NodeEnd<N, L>
         ensures log { written (L.logged result.log) ≡ self.log }
         ensures table { N.contents result.table ≡ self.core.table }

@@ -5,7 +5,7 @@ use Rattle.protocol_model.specs.World.{World}
 use Rattle.node_log.specs.declared.node_end.NodeEnd.{NodeEnd}
 use Rattle.node_log.specs.Entries.{Logged}
 
--- the log of a node, its last table, and whether its thread ended without a leave and unasked
+-- the log of a node, its last table, and whether its thread's last turn failed and the node hadn't left
 pub record End : Type 0 where
   pub log : Logged
   pub table : Table

@@ -18,8 +18,8 @@ pub enum CloseFault {
         /// The place in its log.
         at: usize,
     },
-    /// The thread of this node, the least such, ended without an accepted leave and without being asked to. It is looked for
-    /// before anything is played.
+    /// The last turn of the thread of this node, the least such, failed, and the node hadn't left. It is looked for before anything
+    /// is played.
     #[error("left_in_hold {0}")]
     LeftInHold(Node),
     /// All was played, and a transcript of this seat, the least such, has an entry that isn't, in its order, among what the run gave
