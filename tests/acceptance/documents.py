@@ -16,7 +16,7 @@ LIBRARY = "docs/LIBRARY.md"
 # The tests that documents may name, as PART/NAME.
 NAMED = [arguments, clients, departures, pressed, scripts, talks, waits, wrapper]
 # Whatever these have in backticks stands in some file of the crates, tests or tools.
-NAMING = ["ARCHITECTURE", "ASSURANCE", "DECISIONS", "GLOSSARY", "PROOF", "THREADS"]
+NAMING = ["ARCHITECTURE", "ASSURANCE", "DECISIONS", "GLOSSARY", "LIBRARY", "PROOF", "THREADS"]
 # So many names of docs/CONTRACTS.md are judged at least. It is raised with its rows, so that what judges them can't come to pass them over.
 FEWEST_JUDGED = 1250
 # What is built, or kept beside the tree, and folders whose files aren't of the repository.
