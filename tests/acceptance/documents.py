@@ -12,10 +12,11 @@ from .sources import Code, read
 
 CONTRACTS = "docs/CONTRACTS.md"
 ARCHITECTURE = "docs/ARCHITECTURE.md"
+LIBRARY = "docs/LIBRARY.md"
 # The tests that documents may name, as PART/NAME.
 NAMED = [arguments, clients, departures, pressed, scripts, talks, waits, wrapper]
 # Whatever these have in backticks stands in some file of the crates, tests or tools.
-NAMING = ["ARCHITECTURE", "ASSURANCE", "DECISIONS", "GLOSSARY", "PROOF", "THREADS"]
+NAMING = ["ARCHITECTURE", "ASSURANCE", "DECISIONS", "GLOSSARY", "LIBRARY", "PROOF", "THREADS"]
 # So many names of docs/CONTRACTS.md are judged at least. It is raised with its rows, so that what judges them can't come to pass them over.
 FEWEST_JUDGED = 1250
 # What is built, or kept beside the tree, and folders whose files aren't of the repository.
@@ -145,6 +146,19 @@ def claims_of_readme_are_carried(code):
     fail_for([f"{it} is no function" for it in names if it not in known | clauses])
 
 
+def code_of_library_stands(root):
+    """Each block of code in docs/LIBRARY.md is a text of the file that was named last before it."""
+    parts = re.split(r"^```rust\n(.*?)^```\n", read(f"{root}/{LIBRARY}"), flags=re.M | re.S)
+    if len(parts) < 3:
+        raise Failure("no code stands there")
+    named, wrong = [], []
+    for text, code in zip(parts[::2], parts[1::2]):
+        named += re.findall(r"`(crates/\S+\.rt)`", text)
+        if not named or code not in read(f"{root}/{named[-1]}"):
+            wrong.append(f"{named[-1:]} hasn't {code.partition(chr(10))[0]}")
+    fail_for(wrong)
+
+
 def named_tests_are_there(root, tests):
     parts = {it.split("/")[0] for it in tests}
     wrong = []
@@ -213,6 +227,7 @@ def tests(program, root):
         yield test(f"paths_in_{document}", document_names_paths_that_are_there, root, document, others)
     yield test("names_stand_in_the_tree", names_stand_in_the_tree, code)
     yield test("claims_of_readme_are_carried", claims_of_readme_are_carried, code)
+    yield test("code_of_library_stands", code_of_library_stands, root)
     yield test("named_tests_are_there", named_tests_are_there, root, others)
     yield test("types_of_one_name_are_there", types_of_one_name_are_there, code)
     yield test("central_edits_are_there", central_edits_are_there, root)
