@@ -182,19 +182,22 @@ fn mesh_of(alloc: Global, nodes: &NodeSet) -> Option<Mesh<u32>> {
     Mesh::new(alloc, nodes).ok()
 }
 
+/// Whether a row of a text holds.
+fn holds_text(alloc: Global, mesh: &mut Mesh<u32>, text: &str) -> bool {
+    match row_of(text) {
+        Some(row) => holds(alloc, mesh, row),
+        None => false,
+    }
+}
+
 /// The first row that doesn't hold, in a mesh of these nodes.
 fn first_wrong<'a>(alloc: Global, list: &str, script: &'a str) -> Option<&'a str> {
-    let nodes = set_of(list);
-    let Some(mut mesh) = mesh_of(alloc, &nodes) else {
-        return Some("no mesh");
-    };
-    for text in script.lines() {
-        match row_of(text) {
-            Some(row) if holds(alloc, &mut mesh, row) => {}
-            _ => return Some(text),
-        }
+    match mesh_of(alloc, &set_of(list)) {
+        Some(mut mesh) => script
+            .lines()
+            .find(|text| !holds_text(alloc, &mut mesh, text)),
+        None => Some("no mesh"),
     }
-    None
 }
 
 /// Each link keeps its order.
@@ -337,11 +340,16 @@ fn is_used_again(alloc: Global, mesh: &mut Mesh<u32>, a: &Node, b: &Node) -> boo
     }
 }
 
-/// Whether the mesh is then as its end left it.
-fn is_left(alloc: Global, mesh: &mut Mesh<u32>, a: &Node, b: &Node) -> bool {
-    is_used_again(alloc, mesh, a, b)
-        && is_delivered(alloc, mesh.deliver(a, b), "2")
-        && is_delivered(alloc, mesh.deliver(a, b), "3")
+/// Whether a mesh is then as its end left it.
+fn is_left(alloc: Global, a: &Node, b: &Node) -> bool {
+    match mesh_of(alloc, &set_of("a,b")) {
+        Some(mut mesh) => {
+            is_used_again(alloc, &mut mesh, a, b)
+                && is_delivered(alloc, mesh.deliver(a, b), "2")
+                && is_delivered(alloc, mesh.deliver(a, b), "3")
+        }
+        None => false,
+    }
 }
 
 /// Whether nodes rise where each is less than the next.
@@ -351,13 +359,11 @@ fn are_judged(a: Node, b: Node) -> bool {
 
 #[test]
 fn an_end_is_used_many_times(rt: HostRuntime) {
-    let (Ok(a), Ok(b)) = (parse_node("a"), parse_node("b")) else {
-        assert!(rt; false);
-        return;
-    };
-    match mesh_of(rt.alloc(), &set_of("a,b")) {
-        Some(mut mesh) => assert!(rt; is_left(rt.alloc(), &mut mesh, &a, &b)),
-        None => assert!(rt; false),
+    match (parse_node("a"), parse_node("b")) {
+        (Ok(a), Ok(b)) => {
+            assert!(rt; is_left(rt.alloc(), &a, &b));
+            assert!(rt; are_judged(a, b));
+        }
+        _ => assert!(rt; false),
     }
-    assert!(rt; are_judged(a, b));
 }

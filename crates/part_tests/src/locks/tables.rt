@@ -74,24 +74,17 @@ fn holds(table: &mut LockTable, row: Row<'_>) -> bool {
     }
 }
 
-/// The first row that doesn't hold in a new table.
-fn first_wrong<'a>(alloc: Global, script: &'a str) -> Option<&'a str> {
-    let mut table = LockTable::new(alloc);
-    for text in script.lines() {
-        match row_of(text) {
-            Some(row) if holds(&mut table, row) => {}
-            _ => return Some(text),
-        }
-    }
-    None
-}
-
 /// Whether a row of a text holds.
 fn holds_text(table: &mut LockTable, text: &str) -> bool {
     match row_of(text) {
         Some(row) => holds(table, row),
         None => false,
     }
+}
+
+/// The first row that doesn't hold in a table.
+fn first_wrong<'a>(table: &mut LockTable, script: &'a str) -> Option<&'a str> {
+    script.lines().find(|text| !holds_text(table, text))
 }
 
 /// Whether a copy of a table keeps a lock that the table drops.
@@ -212,7 +205,7 @@ ask m.2 a r1 r2
 #[test]
 fn shares_by_requester(rt: HostRuntime) {
     for script in [SHARED, DROPPED, MIDDLE, HOLDERS, LAST] {
-        assert_eq!(rt; first_wrong(rt.alloc(), script), None);
+        assert_eq!(rt; first_wrong(&mut LockTable::new(rt.alloc()), script), None);
     }
     assert!(rt; copy_keeps(rt.alloc()));
 }

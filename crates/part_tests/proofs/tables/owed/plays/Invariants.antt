@@ -1,5 +1,5 @@
 use Rattle.exit_watch.specs.Held.{AreSuspected}
-use Rattle.table_tests.proofs.owed.plays.Given as goal
+use Rattle.part_tests.proofs.tables.owed.plays.Given as goal
 
 abbrev pub invariant-loop-row : goal.invariant-loop-row
 invariant-loop-row l = AreSuspected l.watch l.table

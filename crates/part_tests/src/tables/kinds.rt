@@ -1,6 +1,6 @@
 //! Tables of names, row by row; and the two of them side by side.
-use crate::reading::{are_pairs, entry_of, pair_of, pairs_of};
-use name_table::{Change, IndexTable, ListTable, Names, Pair};
+use crate::tables::reading::{are_pairs, entry_of, pair_of, pairs_of};
+use name_table::{Change, Entry, IndexTable, ListTable, Names, Pair};
 use std::alloc::Global;
 use term::{Name, parse_name, parse_node, parse_pid};
 
@@ -39,15 +39,19 @@ fn drop_node<N: Names>(table: &mut N, node: &str) -> bool {
     }
 }
 
+/// Whether the owner of a name is that of an entry, or nobody has it where there is none.
+fn has_owner<N: Names>(table: &N, name: &Name, entry: Option<Entry>) -> bool {
+    match entry {
+        Some(entry) => table.owner(name) == Some(entry.owner),
+        None => table.owner(name).is_none(),
+    }
+}
+
 /// Whether this stands under a name and its owner is found so, or nothing does where the text is empty.
 fn stands<N: Names>(table: &N, name: &str, text: &str) -> bool {
-    let Ok(name) = parse_name(name) else {
-        return false;
-    };
-    match (table.get(&name), table.owner(&name), entry_of(text)) {
-        (Some(found), Some(owner), Some(wanted)) => found == wanted && owner == wanted.owner,
-        (None, None, None) => true,
-        _ => false,
+    match parse_name(name) {
+        Ok(name) => table.get(&name) == entry_of(text) && has_owner(table, &name, entry_of(text)),
+        Err(_) => false,
     }
 }
 
@@ -246,13 +250,18 @@ fn stay_alike<N: Names, M: Names>(alloc: Global, list: &mut N, index: &mut M, fi
     true
 }
 
+/// Whether both stay so from three numbers on, one behind the other.
+fn all_stay_alike<N: Names, M: Names>(alloc: Global, list: &mut N, index: &mut M) -> bool {
+    stay_alike(alloc, list, index, 7)
+        && stay_alike(alloc, list, index, 77)
+        && stay_alike(alloc, list, index, 777)
+}
+
 #[test]
 fn index_table_does_as_the_list_does(rt: HostRuntime) {
     let mut list: ListTable<Global> = Names::empty(rt.alloc());
     let mut index: IndexTable<Global> = Names::empty(rt.alloc());
-    assert!(rt; stay_alike(rt.alloc(), &mut list, &mut index, 7));
-    assert!(rt; stay_alike(rt.alloc(), &mut list, &mut index, 77));
-    assert!(rt; stay_alike(rt.alloc(), &mut list, &mut index, 777));
+    assert!(rt; all_stay_alike(rt.alloc(), &mut list, &mut index));
 }
 
 /// Puts the name of this number in the row n0001, n0002, and so on, for a.1, or removes it where it is the least one.
@@ -280,9 +289,13 @@ fn finds_the_next<N: Names>(alloc: Global, table: &mut N) -> bool {
 }
 
 #[test]
-fn tables_find_the_next_of_a_row(rt: HostRuntime) {
+fn list_table_finds_the_next_of_a_row(rt: HostRuntime) {
     let mut list: ListTable<Global> = Names::empty(rt.alloc());
-    let mut index: IndexTable<Global> = Names::empty(rt.alloc());
     assert!(rt; finds_the_next(rt.alloc(), &mut list));
+}
+
+#[test]
+fn index_table_finds_the_next_of_a_row(rt: HostRuntime) {
+    let mut index: IndexTable<Global> = Names::empty(rt.alloc());
     assert!(rt; finds_the_next(rt.alloc(), &mut index));
 }

@@ -1,27 +1,12 @@
-//! What comes of reading and printing a text, as the rows of the tests tell it.
+//! What comes of reading and printing a text.
 use std::alloc::AllocError;
 use term::TextFault;
 
-/// Whether a fault is the one that a row names: by its word, and a bad byte by its place behind that.
-fn is_fault(fault: TextFault, wanted: &str) -> bool {
-    match fault {
-        TextFault::Empty => wanted == "empty",
-        TextFault::TooLong => wanted == "too_long",
-        TextFault::BadByte(0) => wanted == "bad_byte 0",
-        TextFault::BadByte(1) => wanted == "bad_byte 1",
-        TextFault::BadByte(_) => false,
-        TextFault::BadCreation => wanted == "bad_creation",
-        TextFault::BadSerial => wanted == "bad_serial",
-        TextFault::BadRule => wanted == "bad_rule",
-        TextFault::TooManyNodes => wanted == "too_many_nodes",
-    }
-}
-
-/// Whether a text was refused with the fault that a row names.
-pub(crate) fn is_refused<T: Drop>(read: Result<T, TextFault>, wanted: &str) -> bool {
+/// Whether a text was refused for this.
+pub(crate) fn is_refused<T: Drop>(read: Result<T, TextFault>, wanted: TextFault) -> bool {
     match read {
         Ok(_) => false,
-        Err(fault) => is_fault(fault, wanted),
+        Err(fault) => fault == wanted,
     }
 }
 

@@ -7,9 +7,10 @@ use term::{Name, Pid, parse_name, parse_pid, parse_rule};
 /// What stands under a name, of a text such as `a.1:notify`; where no rule is named it is `exit`.
 pub(crate) fn entry_of(text: &str) -> Option<Entry> {
     let (owner, rule) = text.split_once(':').unwrap_or((text, "exit"));
-    match (parse_pid(owner), parse_rule(rule)) {
-        (Ok(owner), Ok(rule)) => Some(Entry { owner, rule }),
-        _ => None,
+    let rule = parse_rule(rule).ok()?;
+    match parse_pid(owner) {
+        Ok(owner) => Some(Entry { owner, rule }),
+        Err(_) => None,
     }
 }
 

@@ -1,7 +1,7 @@
 //! Worked rows of rules.
-use crate::reading::{is_refused, is_text};
+use crate::texts::reading::{is_refused, is_text};
 use std::alloc::Global;
-use term::{Rule, parse_rule};
+use term::{Rule, TextFault, parse_rule};
 
 /// Whether a text is read as this rule, and shown as it.
 fn is_rule(alloc: Global, text: &str, wanted: Rule) -> bool {
@@ -16,5 +16,8 @@ fn reads_and_shows_rules(rt: HostRuntime) {
     assert!(rt; is_rule(rt.alloc(), "exit", Rule::Exit));
     assert!(rt; is_rule(rt.alloc(), "notify", Rule::Notify));
     assert!(rt; is_rule(rt.alloc(), "notify_all", Rule::NotifyAll));
-    assert!(rt; is_refused(parse_rule(""), "empty") && is_refused(parse_rule("notif"), "bad_rule"));
+    assert!(rt;
+        is_refused(parse_rule(""), TextFault::Empty)
+            && is_refused(parse_rule("notif"), TextFault::BadRule)
+    );
 }

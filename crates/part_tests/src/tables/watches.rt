@@ -22,10 +22,18 @@ fn is_shown(alloc: Global, fault: WatchFault, wanted: &str) -> bool {
     }
 }
 
+/// Whether a process is that of a text.
+fn is_process(process: &Pid, text: &str) -> bool {
+    match parse_pid(text) {
+        Ok(wanted) => wanted == *process,
+        Err(_) => false,
+    }
+}
+
 /// Whether a spawn gave this process, or failed so.
 fn is_spawned(alloc: Global, spawned: Result<Pid, WatchFault>, wanted: &str) -> bool {
     match spawned {
-        Ok(process) => parse_pid(wanted) == Ok(process),
+        Ok(process) => is_process(&process, wanted),
         Err(fault) => is_shown(alloc, fault, wanted),
     }
 }

@@ -6,11 +6,14 @@ use transaction::{NameCall, Op, Registrar};
 
 /// The name `x` of a process, which is told if it loses the name.
 fn pair(owner: &str) -> Option<Pair> {
-    Some(Pair {
-        name: parse_name("x").ok()?,
-        owner: parse_pid(owner).ok()?,
-        rule: Rule::Notify,
-    })
+    match (parse_name("x"), parse_pid(owner)) {
+        (Ok(name), Ok(owner)) => Some(Pair {
+            name,
+            owner,
+            rule: Rule::Notify,
+        }),
+        _ => None,
+    }
 }
 
 /// Whether the operation of a call of this number is current.

@@ -1,5 +1,5 @@
 //! Worked joins, row by row.
-use crate::reading::{names_of, notices_of, pairs_of, processes_of};
+use crate::tables::reading::{names_of, notices_of, pairs_of, processes_of};
 use exchange::{Admission, Settled, Welcome, admit_of, settle, welcome_of};
 use name_table::{Change, IndexTable, ListTable, Names, Pair};
 use std::alloc::Global;
@@ -157,20 +157,27 @@ d | x=d.1 y=d.2 | w=c.1 x=b.1:notify_all y=d.1:notify_all | - | x y | - | x:b.1:
 a | w=a.1 x=a.1 y=a.2 | w=b.1 x=b.1:notify y=c.1:notify_all | w=a.1 x=a.1 | y | b.1 | x:b.1 y:c.1:a.2 y:a.2:c.1 | a,b,c | w=a.1 x=a.1
 ";
 
+/// Whether the join of a row is settled so in a list.
+fn settles_in_list(alloc: Global, row: &str) -> bool {
+    settles::<ListTable<Global>>(alloc, Names::empty(alloc), join_of(row))
+}
+
 #[test]
 fn settles_joins(rt: HostRuntime) {
     for row in DEATHS.lines() {
-        let table: ListTable<Global> = Names::empty(rt.alloc());
-        assert!(rt; settles(rt.alloc(), table, join_of(row)), "{row}");
+        assert!(rt; settles_in_list(rt.alloc(), row), "{row}");
     }
+}
+
+/// Whether the join of a row is settled so in both tables.
+fn settles_in_both(alloc: Global, row: &str) -> bool {
+    settles_in_list(alloc, row)
+        && settles::<IndexTable<Global>>(alloc, Names::empty(alloc), join_of(row))
 }
 
 #[test]
 fn settles_by_rules(rt: HostRuntime) {
     for row in RULES.lines() {
-        let list: ListTable<Global> = Names::empty(rt.alloc());
-        let index: IndexTable<Global> = Names::empty(rt.alloc());
-        assert!(rt; settles(rt.alloc(), list, join_of(row)), "{row}");
-        assert!(rt; settles(rt.alloc(), index, join_of(row)), "{row}");
+        assert!(rt; settles_in_both(rt.alloc(), row), "{row}");
     }
 }

@@ -1,7 +1,6 @@
 //! Worked rows of resources, requesters and ids of locks.
-use crate::reading::{are_rising, is_refused, is_text};
+use crate::texts::reading::{are_rising, is_refused, is_text};
 use std::alloc::Global;
-use std::test::Fail;
 use term::{
     LockId, Node, Requester, Resource, TextFault, parse_node, parse_requester, parse_resource,
     print_requester, print_resource,
@@ -34,16 +33,21 @@ fn are_shown(alloc: Global, resource: &str, requester: &str, wanted: &str) -> bo
     }
 }
 
+/// Whether what is no resource and no requester is refused, and the others are in order.
+fn are_refused_and_rising() -> bool {
+    is_refused(parse_resource(""), TextFault::Empty)
+        && is_refused(parse_resource("a.b"), TextFault::BadByte(1))
+        && is_refused(parse_requester("r 1"), TextFault::BadByte(1))
+        && is_refused(parse_requester("r/2"), TextFault::BadByte(1))
+        && are_rising(parse_resource("a"), parse_resource("b"))
+        && are_rising(parse_requester("ab"), parse_requester("b"))
+}
+
 #[test]
 fn reads_and_prints(rt: HostRuntime) {
     assert!(rt; is_resource(rt.alloc(), "db_1@disk-2") && is_requester(rt.alloc(), "r1"));
     assert!(rt; are_shown(rt.alloc(), "db_1@disk-2", "r1", "db_1@disk-2 r1"));
-    assert!(rt; is_refused(parse_resource(""), "empty"));
-    assert!(rt; is_refused(parse_resource("a.b"), "bad_byte 1"));
-    assert!(rt; is_refused(parse_requester("r 1"), "bad_byte 1"));
-    assert!(rt; is_refused(parse_requester("r/2"), "bad_byte 1"));
-    assert!(rt; are_rising(parse_resource("a"), parse_resource("b")));
-    assert!(rt; are_rising(parse_requester("ab"), parse_requester("b")));
+    assert!(rt; are_refused_and_rising());
 }
 
 /// Whether the registrar of a node asks for `global` in the name of this node, which has this text.
@@ -65,26 +69,37 @@ fn is_copied(node: &Node) -> bool {
         && id.requester.copy() == id.requester
 }
 
-#[test]
-fn names_the_registrars_lock(rt: HostRuntime) -> Result<(), Fail> {
-    let first = parse_node("n1@host")?;
-    let again = parse_node("n1@host/2")?;
-    let second = parse_node("n2@host")?;
-    assert!(rt; asks_for_global(rt.alloc(), &first, "n1@host") && is_copied(&first));
-    assert!(rt; asks_for_global(rt.alloc(), &again, "n1@host/2") && is_copied(&again));
-    assert!(rt; LockId::global(&first) != LockId::global(&second));
-    assert!(rt; LockId::global(&first) != LockId::global(&again));
-    Ok(())
+/// Whether the id of the lock of a registrar, whose node has this text, is as it is to be.
+fn is_named(alloc: Global, text: &str) -> bool {
+    match parse_node(text) {
+        Ok(node) => asks_for_global(alloc, &node, text) && is_copied(&node),
+        Err(_) => false,
+    }
 }
 
-/// Whether a client's requester is that of the registrar of the first node of this name.
-fn is_of_first(text: &str) -> Result<bool, TextFault> {
-    Ok(parse_requester(text)? == Requester::of_node(&parse_node(text)?))
+/// Whether the registrars of two nodes have locks of their own.
+fn are_two(first: &str, second: &str) -> bool {
+    match (parse_node(first), parse_node(second)) {
+        (Ok(first), Ok(second)) => LockId::global(&first) != LockId::global(&second),
+        _ => false,
+    }
 }
 
 #[test]
-fn takes_a_text_for_a_first_node(rt: HostRuntime) -> Result<(), Fail> {
-    assert!(rt; is_of_first("r1")?);
-    assert!(rt; parse_requester("r1")? != Requester::of_node(&parse_node("r1/2")?));
-    Ok(())
+fn names_the_registrars_lock(rt: HostRuntime) {
+    assert!(rt; is_named(rt.alloc(), "n1@host") && is_named(rt.alloc(), "n1@host/2"));
+    assert!(rt; are_two("n1@host", "n2@host") && are_two("n1@host", "n1@host/2"));
+}
+
+/// Whether a client's requester is that of the registrar of a node, if both are read.
+fn is_of(requester: &str, node: &str) -> Option<bool> {
+    match (parse_requester(requester), parse_node(node)) {
+        (Ok(requester), Ok(node)) => Some(requester == Requester::of_node(&node)),
+        _ => None,
+    }
+}
+
+#[test]
+fn takes_a_text_for_a_first_node(rt: HostRuntime) {
+    assert!(rt; is_of("r1", "r1") == Some(true) && is_of("r1", "r1/2") == Some(false));
 }

@@ -1,5 +1,5 @@
 //! What the processes of a node were sent.
-use crate::reading::notices_of;
+use crate::tables::reading::notices_of;
 use notice_lists::NoticeLists;
 use std::alloc::Global;
 use term::{Node, parse_node};

@@ -1,0 +1,5 @@
+//! Meshes and their ends, inboxes between threads, and trays.
+
+mod inboxes;
+mod meshes;
+mod trays;
