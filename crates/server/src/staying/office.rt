@@ -61,6 +61,16 @@ impl<R: Wait + Drop + Copy> Office<R> {
         let _ = self.desk.send(&self.rt, message);
     }
 
+    /// Whether a console that was greeted is attached: not where as many are as may be.
+    pub(crate) fn attach(&self) -> bool {
+        self.hall.lock(&self.rt).attach()
+    }
+
+    /// A console that was attached has ended.
+    pub(crate) fn detach(&self) {
+        self.hall.lock(&self.rt).detach();
+    }
+
     /// Tells the desk what happened.
     pub(crate) fn note(&self, note: Note) {
         self.say(Message::Tell(note));
