@@ -11,6 +11,7 @@ use crate::staying::office::Office;
 use crate::staying::options::StayOptions;
 use crate::staying::worker::Worker;
 use crossbeam_channel::{Receiver, RecvTimeoutError, Sender, bounded};
+use descriptions::SharedDescriptions;
 use lock_lines::LockLines;
 use std::alloc::{AllocError, Global};
 use std::io::Write;
@@ -166,6 +167,7 @@ impl Staff {
             hall: Arc::try_clone(&hall)?,
             memory: Arc::try_clone(&memory)?,
             lines: Arc::new(alloc, LockLines::new(alloc))?,
+            descriptions: Arc::new(alloc, SharedDescriptions::new(alloc))?,
             guests,
             desk,
         };
