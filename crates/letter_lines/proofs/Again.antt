@@ -1,12 +1,11 @@
 -- The parts of letters are read as these letters.
-use Rattle.std.proofs.Common.{◌≡◌, ℕ, true, ◌+◌, ◌<◌, ◌≤◌, ◌||◌, nat_lt, List, [], ◌∷◌, ◌++◌, map, length, get_or, Some, None, subst, sym, ◌∙◌, ap, refl, arith, append_assoc, append-nil, length-append, lt-ltb, flat_map, insert}
+use Rattle.std.proofs.Common.{◌≡◌, ℕ, true, ◌+◌, ◌<◌, List, [], ◌∷◌, ◌++◌, map, length, get_or, Some, subst, sym, ◌∙◌, ap, refl, arith, append_assoc, append-nil, length-append, lt-ltb, flat_map, insert}
 use Rattle.std.proofs.Math.ListN.{get_or-append}
 use Rattle.std.proofs.Math.Seq.{get_or-append_seam}
 use Rattle.std.proofs.lemmas.List.{take_all, drop_all}
 use Rattle.std.specs.List.{AllByRecursion}
 use Rattle.registry_model.specs.Process.{Process}
 use Rattle.registry_model.specs.Settlement.{Noted}
-use Rattle.registry_model.specs.Table.{Pair as APair}
 use Rattle.protocol_model.specs.Letter.{Letter as AnyLetter}
 use Rattle.exchange.specs.declared.bodies.Admission.{Admission}
 use Rattle.exchange.specs.declared.bodies.Welcome.{Welcome as AWelcome}
@@ -92,7 +91,12 @@ fate_kept g kills notices rest ls no_kills no_notices =
 -- what a member is told is kept
 admit_kept : (a : Admission) (rest : List Part) (ls : List AnyLetter)
     → read_on (admit_items a ++ rest) nothing ls
-    ≡ read_on rest (record nothing { puts = a.puts.items; removes = a.removes.items; kills = a.kills.items; notices = a.notices.items }) ls
+    ≡ read_on rest (record nothing {
+      puts = a.puts.items;
+      removes = a.removes.items;
+      kills = a.kills.items;
+      notices = a.notices.items;
+    }) ls
 admit_kept a rest ls =
     let removes = map Remove a.removes.items in
     let fate = fate_items a.kills.items a.notices.items in
@@ -100,8 +104,10 @@ admit_kept a rest ls =
     (append_assoc (map Put a.puts.items) (removes ++ fate) rest
     ∙ ap (λ (ps : List Part). map Put a.puts.items ++ ps) (append_assoc removes fate rest))
     ∙ (list_kept Put (λ xs. record nothing { puts = xs }) (λ x xs. refl) a.puts.items [] (removes ++ (fate ++ rest)) ls
-    ∙ (list_kept Remove (λ xs. record nothing { puts = a.puts.items; removes = xs }) (λ x xs. refl) a.removes.items [] (fate ++ rest) ls
-    ∙ fate_kept (record nothing { puts = a.puts.items; removes = a.removes.items }) a.kills.items a.notices.items rest ls refl refl))
+    ∙ (list_kept Remove (λ xs. record nothing { puts = a.puts.items; removes = xs }) (λ x xs. refl) a.removes.items []
+    (fate ++ rest) ls
+    ∙ fate_kept (record nothing { puts = a.puts.items; removes = a.removes.items }) a.kills.items a.notices.items rest
+    ls refl refl))
 
 -- what a joiner is told is kept
 welcome_kept : (w : AWelcome) (rest : List Part) (ls : List AnyLetter) → HasSets w
@@ -121,12 +127,14 @@ welcome_kept w rest ls sets =
     (append_assoc (map Member w.members) (pairs ++ (told ++ fate)) rest
     ∙ ap (λ (ps : List Part). map Member w.members ++ ps)
     (append_assoc pairs (told ++ fate) rest ∙ ap (λ (ps : List Part). pairs ++ ps) (append_assoc told fate rest)))
-    ∙ (set_kept Member (λ xs. record nothing { members = xs }) (λ x xs. refl) w.members [] (pairs ++ (told ++ (fate ++ rest))) ls sets.members
-    ∙ (list_kept Pair (λ xs. record nothing { members = w.members; pairs = xs }) (λ x xs. refl) w.pairs.items [] (told ++ (fate ++ rest)) ls
+    ∙ (set_kept Member (λ xs. record nothing { members = xs }) (λ x xs. refl) w.members []
+    (pairs ++ (told ++ (fate ++ rest))) ls sets.members
+    ∙ (list_kept Pair (λ xs. record nothing { members = w.members; pairs = xs }) (λ x xs. refl) w.pairs.items []
+    (told ++ (fate ++ rest)) ls
     ∙ (set_kept Told (λ xs. record nothing { members = w.members; pairs = w.pairs.items; told = xs }) (λ x xs. refl) w.told []
     (fate ++ rest) ls sets.told
-    ∙ fate_kept (record nothing { members = w.members; pairs = w.pairs.items; told = w.told }) w.kills.items w.notices.items rest ls
-    refl refl)))
+    ∙ fate_kept (record nothing { members = w.members; pairs = w.pairs.items; told = w.told }) w.kills.items w.notices.items
+    rest ls refl refl)))
 
 -- the parts of a letter, and others behind them, are read as the letter, and then the others
 letter_again : (l : Letter) (rest : List Part) (ls : List AnyLetter) → IsLetter l

@@ -4,12 +4,13 @@ use Rattle.std.proofs.Math.ListN.{get_or-append}
 use Rattle.std.proofs.Math.Seq.{take-append_seam, drop-append-add, get_or-append_seam}
 use Rattle.std.proofs.lemmas.Bool.{eqb-true}
 use Rattle.std.proofs.lemmas.List.Sums.{position_or_len_is, split_at_first, passes_at_first}
-use Rattle.std.specs.List.{All, position_or_len, before_first, after_first}
+use Rattle.std.specs.List.{position_or_len, before_first, after_first}
 use Rattle.term.specs.Spelling.{SpellsNode, dot}
 use Rattle.term.proofs.OneNode.{node-lacks_dot}
 
 -- it stands right behind the text of a node
-pub dot-at : (node behind : List ℕ) (n : ℕ) → SpellsNode node n → position_or_len (λ b. b == dot) (node ++ dot ∷ behind) ≡ length node
+pub dot-at : (node behind : List ℕ) (n : ℕ) → SpellsNode node n
+    → position_or_len (λ b. b == dot) (node ++ dot ∷ behind) ≡ length node
 dot-at node behind n s =
     position_or_len_is (λ b. b == dot) (node ++ dot ∷ behind) (length node) 0 within before (λ _. at)
   where

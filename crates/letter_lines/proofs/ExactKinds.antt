@@ -1,5 +1,5 @@
 -- Each kind of text is spelled and refused exactly, and none of its texts has a space.
-use Rattle.std.proofs.Common.{◌≡◌, ℕ, ◌^◌, ◌<◌, ◌==◌, ◌⊎◌, inl, inr, Bool, true, false, not, List, [], ◌∷◌, ◌++◌, arith, subst, sym, ◌∙◌, ap, refl, get_or, decimal, length, if◌then◌else◌}
+use Rattle.std.proofs.Common.{◌≡◌, ℕ, ◌^◌, ◌<◌, ◌==◌, inl, inr, Bool, true, false, not, List, [], ◌∷◌, ◌++◌, arith, subst, sym, ◌∙◌, ap, refl, get_or, decimal, if◌then◌else◌}
 use Rattle.std.proofs.lemmas.Bool.{ne_eqb}
 use Rattle.std.proofs.lemmas.Fmt.{decimal_digit, digits_decimal}
 use Rattle.std.proofs.lemmas.List.Elements.{All-append, All-nil, All-cons, All-from_get_or}
@@ -19,7 +19,7 @@ use Rattle.term.proofs.OneNode.{exact_nodes, name_bytes-spells}
 use Rattle.term.proofs.Serials.{digits_model}
 use Rattle.term.proofs.Texts.{bytes_of-spells}
 use Rattle.letter_lines.specs.Grammar.{Kind, Resource, Requester, Pid, Name, Rule, Node, Granted, Ack, Value, Spells, RefusedAs, granted_text, ack_text}
-use Rattle.letter_lines.specs.Processes.{SpellsProcess, SpellsRegistrar, process_bytes}
+use Rattle.letter_lines.specs.Processes.{SpellsProcess, process_bytes}
 use Rattle.letter_lines.proofs.ExactProcesses.{exact_processes}
 
 -- a text says one thing
@@ -154,7 +154,8 @@ node-lacks text n s =
     (text-lacks s.name s.name_spelled.text) (creation-lacks (creation_of n) (creation_of n == 1) s.fits))
 
 -- a node, a dot and digits lack it
-dotted-lack : (text node digits : List ℕ) (n : ℕ) → text ≡ node ++ dot ∷ digits → SpellsNode node n → Lacks 32 digits → Lacks 32 text
+dotted-lack : (text node digits : List ℕ) (n : ℕ) → text ≡ node ++ dot ∷ digits → SpellsNode node n → Lacks 32 digits
+    → Lacks 32 text
 dotted-lack text node digits n parts s lacks =
     subst (Lacks 32) (sym parts)
     (All-append (λ b. (b == 32) ≡ false) node (dot ∷ digits) (node-lacks node n s)

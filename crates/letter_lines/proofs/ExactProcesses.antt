@@ -7,7 +7,7 @@ use Rattle.std.specs.List.{after_first, position_or_len}
 use Rattle.registry_model.specs.Process.{Process}
 use Rattle.term.specs.declared.faults.TextFault.{TextFault}
 use Rattle.term.specs.Laws.{IsExact}
-use Rattle.term.specs.Spelling.{SpellsNode, RefusesNode, SpellsPid, RefusesPid, node_part, dot}
+use Rattle.term.specs.Spelling.{SpellsNode, SpellsPid, RefusesPid, node_part, dot}
 use Rattle.term.proofs.OneNode.{exact_nodes}
 use Rattle.letter_lines.specs.Processes.{SpellsRegistrar, SpellsProcess, RefusesProcess}
 use Rattle.letter_lines.proofs.Dots.{dot-at, before-dot, behind-dot, split-dot}

@@ -1,7 +1,7 @@
 -- What the exits of a `?` say.
 use Rattle.std.proofs.Common.{◌≡◌, ℕ, List, [], ◌∷◌, ◌++◌, Option, Some, None, Result, Err, MatchOption, MatchResult, inl, inr}
 use Rattle.term.specs.declared.faults.TextFault.{TextFault}
-use Rattle.letter_lines.specs.Grammar.{Kind, FirstRefused, Value, Spells}
+use Rattle.letter_lines.specs.Grammar.{Kind, FirstRefused}
 
 -- where the fault is known
 pub MatchResult-err : {A E : Type 0} (P : A → Type 0) (Q : E → Type 0) (r : Result A E) (y : E) → r ≡ Err y → Q y

@@ -1,5 +1,5 @@
 -- A line that is printed is read as its part.
-use Rattle.std.proofs.Common.{◌≡◌, ℕ, Bool, List, [], ◌∷◌, Option, Some, None, Ok, inl, inr, refl, ap, codes}
+use Rattle.std.proofs.Common.{◌≡◌, ℕ, Bool, List, [], ◌∷◌, Option, Some, None, Ok, inl, refl, ap, codes}
 use Rattle.registry_model.specs.Process.{Process}
 use Rattle.registry_model.specs.Settlement.{Noted, note}
 use Rattle.registry_model.specs.Table.{Pair as APair}
@@ -8,7 +8,6 @@ use Rattle.term.specs.declared.lock_id.LockId.{LockId}
 use Rattle.term.specs.declared.rule.Rule.{Rule as ARule}
 use Rattle.term.specs.Rules.{rule_of}
 use Rattle.term.specs.Spelling.{SpellsText, SpellsNode}
-use Rattle.letter_lines.specs.declared.part.Part.{Part}
 use Rattle.letter_lines.specs.declared.part.Part.TheVariants.{Pair, Put, Remove, Kill, Notice, Member, Told, SetLock, LockAnswer, GiveBack, GivenBack, ReleaseOf, Apply, Admit}
 use Rattle.letter_lines.specs.Grammar.{TextReads, pair_for, granted_text, ack_text}
 use Rattle.letter_lines.specs.Lines.{IsLine, LineOfPair, LineOfLock, LineOfLockWith, LineOfNotice, SpellsOther}

@@ -1,5 +1,5 @@
 -- What is read is what was written.
-use Rattle.std.proofs.Common.{◌≡◌, ℕ, ◌<◌, ◌==◌, Bool, not, true, inl, inr, List, [], ◌∷◌, ◌++◌, length, Option, Some, None, Result, Ok, Err, subst, sym, ◌∙◌, ap, refl, arith, codes, append_assoc, append-nil}
+use Rattle.std.proofs.Common.{◌≡◌, ℕ, ◌<◌, inl, inr, List, [], ◌∷◌, ◌++◌, length, Option, Some, None, Result, Ok, subst, sym, ◌∙◌, ap, refl, arith, codes, append_assoc, append-nil}
 use Rattle.std.specs.List.{AllByRecursion, join_with_byte}
 use Rattle.std.proofs.lemmas.List.Splits.{slice_split_none, slice_split_at, join_with_byte-slice_split}
 use Rattle.registry_model.specs.Process.{Process, Text as AText}
@@ -9,7 +9,7 @@ use Rattle.term.specs.Rules.{rule_of, rule_in, rule_bytes}
 use Rattle.term.specs.Spelling.{bytes_of}
 use Rattle.letter_lines.specs.declared.faults.LetterFault.{LetterFault}
 use Rattle.letter_lines.specs.declared.part.Part.{Part}
-use Rattle.letter_lines.specs.Grammar.{Kind, Value, Spells, Makes, Row, AllSpelled, ReadBy, WordsRead, TextReads, row_of, grammar, words, is_space}
+use Rattle.letter_lines.specs.Grammar.{Kind, Value, Makes, Row, AllSpelled, ReadBy, WordsRead, TextReads, row_of, grammar, words, is_space}
 use Rattle.letter_lines.specs.Lines.{IsLine}
 use Rattle.letter_lines.specs.Parts.{words_of, text_of}
 use Rattle.letter_lines.specs.Processes.{process_bytes}
@@ -51,7 +51,7 @@ all_written = (
         (
           record { lacks = lacks_space (codes "release") refl; writes = λ p. refl },
           (
-            record { lacks = lacks_space (codes "put") refl; writes = λ x p r. pair_back (codes "put") x p r },
+            record { lacks = lacks_space (codes "put") refl; writes = pair_back (codes "put") },
             (
               record { lacks = lacks_space (codes "remove") refl; writes = λ x. refl },
               (
@@ -69,9 +69,9 @@ all_written = (
                           (
                             record { lacks = lacks_space (codes "down") refl; writes = refl },
                             (
-                              record { lacks = lacks_space (codes "+pair") refl; writes = λ x p r. pair_back (codes "+pair") x p r },
+                              record { lacks = lacks_space (codes "+pair") refl; writes = pair_back (codes "+pair") },
                               (
-                                record { lacks = lacks_space (codes "+put") refl; writes = λ x p r. pair_back (codes "+put") x p r },
+                                record { lacks = lacks_space (codes "+put") refl; writes = pair_back (codes "+put") },
                                 (
                                   record { lacks = lacks_space (codes "+remove") refl; writes = λ x. refl },
                                   (

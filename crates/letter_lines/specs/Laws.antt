@@ -1,5 +1,5 @@
 -- What holds of the texts of parts and of the parts of letters.
-use Rattle.std.specs.Prelude.{ℕ, ◌≡◌, ◌≤◌, List, [], map, length, flat_map, Result, Ok, Some}
+use Rattle.std.specs.Prelude.{ℕ, ◌≡◌, List, map, flat_map, Result, Ok, Some}
 use Rattle.std.specs.List.{AllByRecursion}
 use Rattle.exchange.specs.declared.bodies.Welcome.{Welcome as AWelcome}
 use Rattle.node_events.specs.declared.events.Letter.{Letter}

@@ -260,9 +260,9 @@ impl Gathering {
         Ok(Some(Letter::Welcome(body)))
     }
 
-    /// Takes the next part: none where it is an item, and the letter where it is one, of which the items before it are. Nothing is left
-    /// then. `BadLine`: an item before it is none of this letter; `TooManyNodes`: of members, or of told nodes, there are eight others;
-    /// `Memory`: memory was refused for an item or a welcome. What was read before stays then.
+    /// Takes the next part: none where it is an item, and the letter where it is one, of which the items before it are. Nothing
+    /// is left then. `BadLine`: an item before it is none of this letter; `TooManyNodes`: of members, or of told nodes, there are
+    /// eight others; `Memory`: memory was refused for an item or a welcome. What was read before stays then.
     pub fn take(&mut self, part: Part) -> Result<Option<Letter>, LetterFault>
         ensures { Takes part self.old self.new result }
     {

@@ -102,7 +102,8 @@ fn long_notice_line(
 
 /// The line of a notice.
 fn notice_line(alloc: Global, noted: &Noted) -> Result<String, AllocError>
-    ensures { IfOk result (λ line. LineOfNotice noted.now.process noted.now.notice.name noted.now.notice.other (string_bytes line)) }
+    ensures { IfOk result (λ line.
+        LineOfNotice noted.now.process noted.now.notice.name noted.now.notice.other (string_bytes line)) }
 {
     let process = &noted.process;
     let name = &noted.notice.name;

@@ -1,7 +1,6 @@
 use Rattle.std.proofs.Common.{◌≡◌, ◌==◌, ◌∷◌, ◌++◌, [], List, ℕ, length, arith, sym, subst, ap, ◌∙◌}
 use Rattle.std.specs.Cmp.Lexicographic.{same_text, other_text}
 use Rattle.std.specs.List.{position_or_len}
-use Rattle.registry_model.specs.Process.{Process}
 use Rattle.term.specs.Spelling.{SpellsNode, dot}
 use Rattle.letter_lines.proofs.Dots.{split-dot}
 use Rattle.letter_lines.proofs.ExactProcesses.{registrar-dot, registrar-behind, registrar-node}
