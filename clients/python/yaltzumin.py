@@ -27,7 +27,7 @@ from dataclasses import dataclass
 from types import TracebackType
 from typing import Optional, Union
 
-__all__ = ["Connection", "Disconnected", "Notice", "Place", "Refused", "Status", "connect", "lead", "pauses"]
+__all__ = ["Connection", "Disconnected", "Found", "Notice", "Place", "Refused", "Status", "connect", "lead", "pauses"]
 
 #: Where a server listens: the path of its socket, or a host and a port.
 Place = Union[str, "tuple[str, int]"]
@@ -54,6 +54,14 @@ class Notice:
 
     name: str
     other: Optional[str]
+
+
+@dataclass(frozen=True)
+class Found:
+    """The process that has a name, and what was said of it, if anything was."""
+
+    process: str
+    description: Optional[str]
 
 
 @dataclass(frozen=True)
@@ -95,7 +103,7 @@ def connect(place: Place, node: str = "a", cookie: Optional[str] = None) -> Conn
     except Exception:
         connection.close()
         raise
-    # a lock may be waited for as long as another holds it
+    # a lock may be waited for as long as another holds it, and a name for as long as nobody has it
     stream.settimeout(None)
     return connection
 
@@ -146,8 +154,20 @@ class Connection:
         return self.ask("spawn")
 
     def exit(self, process: str) -> None:
-        """Has a process of this node exit: its names and locks are free soon."""
+        """Has a process of this node exit: its names and locks are free soon, and its description is gone."""
         self.ask(f"exit {process}")
+
+    def describe(self, process: str, text: str) -> None:
+        """Says this of a process of this node, as its address: 1 to 256 printable bytes of ASCII, not spaces alone. What was said of it before
+        is replaced."""
+        if not text.strip(" "):
+            raise ValueError("a description is no text of spaces alone")
+        self.ask(f"describe {process} {text}")
+
+    def description(self, process: str) -> Optional[str]:
+        """What was said of a process, of whichever node, if anything was."""
+        word, _, text = self.ask(f"describe {process}").partition(" ")
+        return text if word == "description" else None
 
     def notices(self, process: str) -> list[Notice]:
         """What a process of this node was sent when lone nodes joined, in the order in which it came."""
@@ -172,6 +192,20 @@ class Connection:
         """The process that has a name, by the table of this node, if one has it."""
         found = self.ask(f"whereis {name}")
         return None if found == "undefined" else found
+
+    def find(self, name: str) -> Optional[Found]:
+        """The process that has a name, by the table of this node, with its description; if one has it."""
+        process, _, text = self.ask(f"find {name}").partition(" ")
+        return None if process == "undefined" else Found(process, text or None)
+
+    def wait_for(self, name: str) -> str:
+        """Waits until some process has a name, by the table of this node: which one. Raises `Refused` where the node leaves or the server ends
+        meanwhile (`node_left`, `closed`)."""
+        return self.ask(f"wait {name}")
+
+    def wait_gone(self, name: str, process: str) -> None:
+        """Waits until a name isn't this process's any more, or for nothing where it isn't. It is refused as `wait_for` is."""
+        self.ask(f"wait {name} {process}")
 
     def names(self, prefix: Optional[str] = None) -> list[str]:
         """All names in the table of this node, rising; or those that begin with a prefix, of 1 to 64 bytes."""

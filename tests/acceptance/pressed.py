@@ -1,7 +1,9 @@
-"""Tests that press a server that stays: nobody reads what it tells, first lines come byte by byte, answers aren't read, descriptors are out."""
+"""Tests that press a server that stays: nobody reads what it tells, first lines come byte by byte or not at all, answers aren't read, descriptors
+are out."""
 
 import fcntl
 import os
+import re
 import resource
 import subprocess
 import tempfile
@@ -9,9 +11,9 @@ import time
 from contextlib import suppress
 from functools import partial
 
-from .outcomes import Failure, Test, expect_same, expect_status
+from .outcomes import Failure, Test, expect_same, expect_status, shown
 from .programs import run
-from .served import PIPES, Console, Served, listen_to
+from .served import PIPES, Console, Served, listen_to, wait_for
 from .talks import hears
 from .waits import OVER_TCP, attach, shut_down, until_there_is_a_place
 
@@ -100,6 +102,41 @@ def first_line_by_bytes_is_ended(program, *options):
         shut_down(served, console, program.seconds)
 
 
+def silent_connections_keep_nobody_out(program):
+    """Ten connections over TCP say nothing and show no cookie: as many clients as there are places come in all the same, and no more."""
+    with Served(program, ["--stay", "--nodes", "a", "--consoles", "2", *OVER_TCP]) as served:
+        seconds = program.seconds
+        silent = [Console(served) for _ in range(10)]
+        consoles = [Console(served) for _ in range(2)]
+        for console in consoles:
+            expect_same("an answer", b"ok", hears(console, attach(OVER_TCP), seconds))
+        for console in consoles:
+            expect_same("an answer", b"2", hears(console, b"status", seconds).split()[16])
+        late = Console(served)
+        listen_to([late], lambda: late.has_ended, seconds)
+        expect_same("the answer to one too many", b"error too_many_consoles\n", late.heard)
+        for it in silent:
+            it.go()
+        shut_down(served, consoles[0], seconds)
+
+
+def last_place_is_taken_before(program):
+    """Of two that came while one place was free who is attached first has it, and the other is told so; then it is free again."""
+    with Served(program, ["--stay", "--nodes", "a", "--consoles", "1"]) as served:
+        seconds = program.seconds
+        late, first = Console(served), Console(served)
+        expect_same("an answer", b"ok", hears(first, attach(), seconds))
+        late.say(attach() + b"\nspawn\n")
+        listen_to([late], lambda: late.has_ended, seconds)
+        expect_same("the answer to one too many", b"error too_many_consoles\n", late.heard)
+        expect_same("an answer", b"a.1", hears(first, b"spawn", seconds))
+        expect_same("an answer", b"ok", hears(first, b"quit", seconds))
+        listen_to([first], lambda: first.has_ended, seconds)
+        last = Console(served)
+        expect_same("an answer", b"ok", hears(last, attach(), seconds))
+        shut_down(served, last, seconds)
+
+
 def lines_in_one_piece_are_answered(program):
     """A thousand lines are sent in one piece, and no answer is read for a while: all are answered."""
     with Served(program, ["--stay", "--nodes", "a", "--consoles", "1"]) as served:
@@ -151,6 +188,32 @@ def under(limits, words):
     return ["sh", "-c", f'ulimit {limits} && exec "$@"', "sh", *words]
 
 
+class Limited(Served):
+    """One that may have sixteen descriptors open."""
+
+    def start(self, words):
+        super().start(under("-n 16", words))
+
+
+def few_descriptors_at_the_start(program):
+    """Where there are too few descriptors for all consoles the server says for how many they serve, and these are served at once."""
+    with Limited(program, ["--stay", "--nodes", "a", "--consoles", "16"]) as served:
+        seconds = program.seconds
+        wait_for(served.process.stderr, time.monotonic() + seconds, "line on standard error")
+        line = served.process.stderr.readline()
+        found = re.fullmatch(rb"descriptors for (\d+) of 16 consoles\n", line)
+        if not found or not 4 <= int(found[1]) < 16:
+            raise Failure(f"expected for how many consoles the descriptors serve, got {shown(line)}")
+        consoles = [Console(served) for _ in range(int(found[1]))]
+        for console in consoles:
+            expect_same("an answer", b"ok", hears(console, attach(), seconds))
+        status = hears(consoles[-1], b"status", seconds).split()
+        expect_same("how many consoles there are", found[1], status[16])
+        if int(status[20]) == 0:
+            raise Failure("there is no descriptor left to see how much memory it has")
+        shut_down(served, consoles[0], seconds)
+
+
 def threads_that_cannot_be_had(program):
     """A server that stays whose threads can't be had, for want of room for their stacks, says so, and doesn't say that it listens."""
     with tempfile.TemporaryDirectory(prefix="pressed-") as folder:
@@ -166,5 +229,13 @@ def tests(program, root):
     yield Test("pressed/unread_lines_hold_nobody_up", partial(unread_lines_hold_nobody_up, program))
     yield Test("pressed/first_line_by_bytes_is_ended_at_a_socket", partial(first_line_by_bytes_is_ended, program))
     yield Test("pressed/first_line_by_bytes_is_ended_over_tcp", partial(first_line_by_bytes_is_ended, program, *OVER_TCP))
-    for test in [lines_in_one_piece_are_answered, answers_before_a_lock_that_waits, few_descriptors, threads_that_cannot_be_had]:
+    for test in [
+        silent_connections_keep_nobody_out,
+        last_place_is_taken_before,
+        lines_in_one_piece_are_answered,
+        answers_before_a_lock_that_waits,
+        few_descriptors,
+        few_descriptors_at_the_start,
+        threads_that_cannot_be_had,
+    ]:
         yield Test(f"pressed/{test.__name__}", partial(test, program))

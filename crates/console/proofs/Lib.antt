@@ -1,3 +1,4 @@
+mod Behind
 mod Choosing
 mod Heeding
 mod Leaving
@@ -5,3 +6,4 @@ mod LockCalls
 pub mod Meaning
 mod Talking
 pub mod Unasked
+pub mod Waiting

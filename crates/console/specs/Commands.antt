@@ -1,30 +1,37 @@
 -- What a line of a console says.
-use Rattle.std.specs.Prelude.{ℕ, Bool, true, false, ◌≡◌, ◌≢◌, ◌⊎◌, ◌||◌, bytes_eq, codes, if◌then◌else◌, List, [], ◌∷◌, Option, Some, None, Result, Ok, Err}
+use Rattle.std.specs.Prelude.{ℕ, Bool, true, false, ◌≡◌, ◌≢◌, ◌⊎◌, ◌&&◌, ◌||◌, bytes_eq, codes, if◌then◌else◌, not, drop, length, unwrap_or, List, [], ◌∷◌, Option, Some, None, Result, Ok, Err}
 use Rattle.registry_model.specs.Call.{Register, ReRegister, Unregister, RegisteredNames, NoticesOf, Whereis as LooksUp}
-use Rattle.protocol_model.specs.Event.{Event, Calling, Exiting, Leave as Leaving, Spawn, OnName, LookUp, JoinBy}
+use Rattle.protocol_model.specs.Event.{Calling, Exiting, Leave as Leaving, Spawn, OnName, LookUp, JoinBy}
 use Rattle.term.specs.declared.rule.Rule.TheVariants as rule
-use Rattle.term.specs.Spelling.{SpellsText, RefusesText}
+use Rattle.registry_model.specs.Process.{Process}
+use Rattle.term.specs.Spelling.{SpellsText, RefusesText, SpellsPid, RefusesPid}
+use Rattle.std.specs.List.{after_first, position}
+use Rattle.descriptions.specs.Texts.{SpellsDescription, RefusesDescription}
 use Rattle.command_lines.specs.NodeEventsSeen.{call_of}
 use Rattle.command_lines.specs.declared.faults.LineFault.{LineFault}
 use Rattle.command_lines.specs.declared.faults.LineFault.TheVariants.{BadLine, Text}
-use Rattle.command_lines.specs.Grammar.{ScriptLine as Line, Contact, Name, Pid, Rule, Row, row, row_of, at_node, call_at, pair_for, AsksBy, WordsAsk}
+use Rattle.command_lines.specs.Grammar.{ScriptLine as Line, Contact, Name, Pid, Rule, Row, row, row_of, at_node, call_at, pair_for, AsksBy, FirstRefused, WordsAsk, Finish}
 use Rattle.command_lines.specs.Commands.{unread}
-use Rattle.text_lines.specs.Words.{words}
+use Rattle.text_lines.specs.Words.{is_space, words}
 use Rattle.console.specs.declared.orders.Order.{Order}
-use Rattle.console.specs.declared.orders.Order.TheVariants.{Call, Whereis, Exit, Leave}
+use Rattle.console.specs.declared.orders.Order.TheVariants.{Call, Whereis, Exit, Leave, Wait as Waits}
+use Rattle.console.specs.declared.orders.Awaited.TheVariants.{Taken, Lost}
+use Rattle.console.specs.declared.orders.Inquiry.{Inquiry}
+use Rattle.console.specs.declared.orders.Inquiry.TheVariants.{Describe, Description, Find, Wait}
 use Rattle.console.specs.declared.orders.Command.{Command}
-use Rattle.console.specs.declared.orders.Command.TheVariants.{Ask, SpawnLink, Quit, Shutdown, Status, Help, NamesFrom}
+use Rattle.console.specs.declared.orders.Command.TheVariants.{Ask, SpawnLink, Quit, Shutdown, Status, Help, NamesFrom, Inquire}
 
--- what the node is asked, as the protocol has it
-abbrev pub event_in : Order → Event
-event_in (Call c) = Calling (call_of c)
-event_in (Whereis x) = Calling (LookUp (LooksUp x))
-event_in (Exit p) = Exiting p
-event_in Leave = Leaving
+-- what the node n is asked, as a line of a script asks it. To wait is no event of the protocol: it stands as what no line of a console asks
+abbrev pub line_in : ℕ → Order → Line
+line_in n (Call c) = at_node n (Calling (call_of c))
+line_in n (Whereis x) = at_node n (Calling (LookUp (LooksUp x)))
+line_in n (Exit p) = at_node n (Exiting p)
+line_in n Leave = at_node n Leaving
+line_in n (Waits awaited) = Finish
 
--- what node n is asked, as a line of a script asks it, or why the line is refused
+-- the same, or why the line is refused
 abbrev pub asked_of : ℕ → Result Order LineFault → Result Line LineFault
-asked_of n (Ok o) = Ok (at_node n (event_in o))
+asked_of n (Ok o) = Ok (line_in n o)
 asked_of n (Err f) = Err f
 
 -- the lines that a console has of its own: each asks its node n, which none names. Where a name may have a rule and has none, that is
@@ -78,11 +85,11 @@ WordsAskNode (word ∷ texts) r = AsksFor (is_lock_word word) word texts r
 
 -- a process stands first behind this word
 abbrev pub process_first : List ℕ → Bool
-process_first word = bytes_eq word (codes "exit") || bytes_eq word (codes "notices") || is_lock_word word
+process_first word = bytes_eq word (codes "exit") || bytes_eq word (codes "notices") || bytes_eq word (codes "describe") || is_lock_word word
 
 -- a process stands second behind it
 abbrev pub process_second : List ℕ → Bool
-process_second word = bytes_eq word (codes "register") || bytes_eq word (codes "re_register")
+process_second word = bytes_eq word (codes "register") || bytes_eq word (codes "re_register") || bytes_eq word (codes "wait")
 
 -- what a text means, by whether a process stands there: `self` is the process of this text then, where the console has one of its own
 abbrev pub meant_by : Option (List ℕ) → Bool → List ℕ → List ℕ
@@ -120,6 +127,33 @@ help = codes "help" ∷ []
 abbrev pub names_with : List ℕ → List (List ℕ)
 names_with text = codes "names" ∷ text ∷ []
 
+-- the words ask what a server knows that stays: they are as many as such a line has
+abbrev pub inquires : List (List ℕ) → Bool
+inquires (word ∷ text ∷ []) = bytes_eq word (codes "describe") || bytes_eq word (codes "find") || bytes_eq word (codes "wait")
+inquires (word ∷ text ∷ next ∷ []) = bytes_eq word (codes "wait")
+inquires ws = false
+
+-- what a word with one text asks then: a text in the place of a process is refused as one, and any other as a name
+abbrev pub InquiresOfOne : List ℕ → List ℕ → Result Inquiry LineFault → Type 0
+InquiresOfOne word text (Ok (Description p)) = (word ≡ codes "describe") × SpellsPid text p
+InquiresOfOne word text (Ok (Find x)) = (word ≡ codes "find") × SpellsText text x
+InquiresOfOne word text (Ok (Wait (Taken x))) = (word ≡ codes "wait") × SpellsText text x
+InquiresOfOne word text (Err (Text f)) =
+    ((word ≡ codes "describe") × RefusesPid text f) ⊎ (((word ≡ codes "find") ⊎ (word ≡ codes "wait")) × RefusesText text f)
+InquiresOfOne word text r = ⊥
+
+-- what `wait` with two texts asks
+abbrev pub AwaitsLoss : List ℕ → List ℕ → Result Inquiry LineFault → Type 0
+AwaitsLoss text next (Ok (Wait (Lost x p))) = SpellsText text x × SpellsPid next p
+AwaitsLoss text next (Err (Text f)) = FirstRefused (Name ∷ Pid ∷ []) (text ∷ next ∷ []) f
+AwaitsLoss text next r = ⊥
+
+-- what such words ask, or why they are refused
+abbrev pub Inquires : List (List ℕ) → Result Inquiry LineFault → Type 0
+Inquires (word ∷ text ∷ []) r = InquiresOfOne word text r
+Inquires (word ∷ text ∷ next ∷ []) r = (word ≡ codes "wait") × AwaitsLoss text next r
+Inquires ws r = ⊥
+
 -- words are these, of a line that a server has which stays, and no other
 abbrev pub SaysAtStaying : Bool → List (List ℕ) → List (List ℕ) → Type 0
 SaysAtStaying stays these ws = (stays ≡ true) × (ws ≡ these)
@@ -131,7 +165,7 @@ SaysElse stays these ws = stays ≡ true → ws ≢ these
 -- they do none of what only a console does: it asks its node
 abbrev pub IsAsking : Bool → List (List ℕ) → Type 0
 IsAsking stays ws = (ws ≢ quit) × SaysElse stays shutdown ws × (ws ≢ spawn_link) × SaysElse stays status ws × SaysElse stays help ws
-    × ((text : List ℕ) → SaysElse stays (names_with text) ws)
+    × ((text : List ℕ) → SaysElse stays (names_with text) ws) × (stays ≡ true → inquires ws ≡ false)
 
 -- a text in the place of such a beginning says this: it is refused as a name is
 abbrev pub BeginsNames : List ℕ → Result Command LineFault → Type 0
@@ -143,6 +177,10 @@ BeginsNames text _ = ⊥
 abbrev pub AsksForSome : Bool → List (List ℕ) → Result Command LineFault → Type 0
 AsksForSome stays ws r = (text : List ℕ) × SaysAtStaying stays (names_with text) ws × BeginsNames text r
 
+-- words ask what a server knows that stays, or are refused as such
+abbrev pub AsksServer : Bool → List (List ℕ) → Result Inquiry LineFault → Type 0
+AsksServer stays ws r = (stays ≡ true) × Inquires ws r
+
 -- what words say in a console, of a server that stays or of another, or why they are refused
 abbrev pub WordsSay : Bool → List (List ℕ) → Result Command LineFault → Type 0
 WordsSay stays ws (Ok Quit) = ws ≡ quit
@@ -151,12 +189,46 @@ WordsSay stays ws (Ok SpawnLink) = ws ≡ spawn_link
 WordsSay stays ws (Ok Status) = SaysAtStaying stays status ws
 WordsSay stays ws (Ok Help) = SaysAtStaying stays help ws
 WordsSay stays ws (Ok (NamesFrom prefix)) = AsksForSome stays ws (Ok (NamesFrom prefix))
+WordsSay stays ws (Ok (Inquire inquiry)) = AsksServer stays ws (Ok inquiry)
 WordsSay stays ws (Ok (Ask o)) = IsAsking stays ws × WordsAskNode ws (Ok o)
-WordsSay stays ws (Err f) = (IsAsking stays ws × WordsAskNode ws (Err f)) ⊎ AsksForSome stays ws (Err f)
+WordsSay stays ws (Err f) = (IsAsking stays ws × WordsAskNode ws (Err f)) ⊎ AsksForSome stays ws (Err f) ⊎ AsksServer stays ws (Err f)
+
+-- words say something of a process: more than its text stands behind `describe`
+abbrev pub describes : List (List ℕ) → Bool
+describes (word ∷ process ∷ text ∷ more) = bytes_eq word (codes "describe")
+describes ws = false
+
+-- the text of that process
+abbrev pub second : List (List ℕ) → List ℕ
+second (word ∷ text ∷ more) = text
+second ws = []
+
+-- how many spaces stand before the first word of a line
+abbrev pub spaces_before : List ℕ → ℕ
+spaces_before line = unwrap_or (position (λ b. not (is_space b)) line) (length line)
+
+-- what stands behind that word and one space
+abbrev pub behind_word : List ℕ → List ℕ
+behind_word line = after_first is_space (drop (spaces_before line) line)
+
+-- what the text of a process and a text to its right say: the first of them that is none is refused
+abbrev pub SaysOf : List ℕ → List ℕ → Result Command LineFault → Type 0
+SaysOf process text (Ok (Inquire (Describe p said))) = SpellsPid process p × SpellsDescription text said
+SaysOf process text (Err (Text f)) = RefusesPid process f ⊎ (((p : Process) × SpellsPid process p) × RefusesDescription text f)
+SaysOf process text r = ⊥
+
+-- what a line says that can be read, in a console with this process of its own, or with none: where it says something of a process, that is
+-- all that stands behind its second word and one space, to the byte; else its words say it
+abbrev pub SaysBy : Bool → Bool → Option (List ℕ) → List ℕ → Result Command LineFault → Type 0
+SaysBy true stays own line r = SaysOf (meant_by own true (second (words line))) (behind_word (behind_word line)) r
+SaysBy false stays own line r = WordsSay stays (meant own (words line)) r
+
+abbrev pub TextSays : Bool → Option (List ℕ) → List ℕ → Result Command LineFault → Type 0
+TextSays stays own line r = SaysBy (stays && describes (words line)) stays own line r
 
 abbrev pub SaysUnless : Bool → Option (List ℕ) → Option LineFault → List ℕ → Result Command LineFault → Type 0
 SaysUnless stays own (Some f) line r = r ≡ Err f
-SaysUnless stays own None line r = WordsSay stays (meant own (words line)) r
+SaysUnless stays own None line r = TextSays stays own line r
 
 -- what a line says, in a console with this process of its own, or with none, or why it is refused: an empty one is a bad line, too
 abbrev pub LineSays : Bool → Option (List ℕ) → List ℕ → Result Command LineFault → Type 0

@@ -1,10 +1,11 @@
 -- What a console asks and prints for its lines.
-use Rattle.std.specs.Prelude.{ℕ, Bool, false, ◌≡◌, ◌<◌, ◌≤◌, ◌+◌, ◌⊎◌, codes, unwrap_or, length, List, [], ◌∷◌, ◌++◌, Option, Some, None, Result, Ok, Err}
+use Rattle.std.specs.Prelude.{ℕ, Bool, false, ⊤, ◌≡◌, ◌<◌, ◌≤◌, ◌+◌, ◌⊎◌, codes, unwrap_or, length, List, [], ◌∷◌, ◌++◌, Option, Some, None, Result, Ok, Err}
 use Rattle.std.specs.List.{concat}
 use Rattle.std.specs.Io.KnownBytes.{Appends}
 use Rattle.registry_model.specs.Process.{Process}
 use Rattle.command_lines.specs.declared.Call.TheVariants.{Spawn, RegisteredNames}
 use Rattle.command_lines.specs.declared.Reply.{Reply}
+use Rattle.command_lines.specs.declared.Reply.TheVariants.{Pid}
 use Rattle.node_seats.specs.declared.fault.SeatFault.{SeatFault}
 use Rattle.node_seats.specs.declared.fault.SeatFault.TheVariants as seat
 use Rattle.command_lines.specs.declared.faults.LineFault.{LineFault}
@@ -22,19 +23,23 @@ use Rattle.console.specs.Outcomes.{outcome_text}
 use Rattle.console.specs.declared.ends.ConsoleEnd.{ConsoleEnd}
 use Rattle.console.specs.declared.ends.ConsoleEnd.TheVariants as by
 use Rattle.console.specs.declared.orders.Order.{Order}
-use Rattle.console.specs.declared.orders.Order.TheVariants.{Call, Exit}
+use Rattle.console.specs.declared.orders.Order.TheVariants.{Call, Exit, Wait, Whereis}
 use Rattle.console.specs.declared.orders.Command.{Command}
-use Rattle.console.specs.declared.orders.Command.TheVariants.{Ask, SpawnLink, Quit, Shutdown, Status, Help, NamesFrom}
+use Rattle.console.specs.declared.orders.Command.TheVariants.{Ask, SpawnLink, Quit, Shutdown, Status, Help, NamesFrom, Inquire}
+use Rattle.console.specs.declared.orders.Inquiry.{Inquiry}
+use Rattle.console.specs.declared.orders.Inquiry.TheVariants as inquiry
+use Rattle.console.specs.declared.describing.DescribeFault.{DescribeFault}
 use Rattle.console.specs.declared.status.Status.{Status as Standing}
+use Rattle.console.specs.Describing.{Fact, Said, Says, Stand, describe_text, description_text, look_up_text}
 use Rattle.console.specs.Statuses.{status_outcome}
 
 -- what an order may be answered, and what is left then; whether it is the call of a linked process that may wait is told with it
 abbrev pub Answering : Type 0 → Type 1
 Answering S = S → Order → Bool → Result Reply SeatFault → S → Type 0
 
--- how the node and the server may stand, or why nobody can tell
+-- how things may stand at the node and the server
 abbrev pub Stands : Type 0 → Type 1
-Stands S = S → Result Standing SeatFault → Type 0
+Stands S = S → Fact → Type 0
 
 -- how a conversation stands: who answers, as contracts see them, and the processes that are linked to the console, in their order
 pub record Talk (S : Type 0) : Type 0 where
@@ -90,6 +95,34 @@ module _ {S : Type 0} (answers : Answering S) where
   ChoosesNames prefix s text t =
       (r : Result Reply SeatFault) × answers s (Call RegisteredNames) false r t × (text ≡ chosen_text prefix r)
 
+module _ {S : Type 0} (answers : Answering S) (stands : Stands S) where
+  -- this was said of the process that a look-up found, if it found one
+  abbrev pub IsSaidOf : S → Result Reply SeatFault → Option (List ℕ) → Type 0
+  IsSaidOf s (Ok (Pid p)) said = stands s (Said p said)
+  IsSaidOf s r said = ⊤
+
+  -- it is printed whether something is said of a process
+  abbrev pub SaysOfProcess : Process → List ℕ → S → List ℕ → S → Type 0
+  SaysOfProcess p said s text t =
+      (r : Result (Unit {0}) DescribeFault) × stands s (Says p said r) × (text ≡ describe_text r) × (t ≡ s)
+
+  -- it is printed what was said of it
+  abbrev pub TellsOfProcess : Process → S → List ℕ → S → Type 0
+  TellsOfProcess p s text t = (said : Option (List ℕ)) × stands s (Said p said) × (text ≡ description_text said) × (t ≡ s)
+
+  -- a name was looked up, and the process is printed with what was said of it
+  abbrev pub FindsName : ℕ → S → List ℕ → S → Type 0
+  FindsName x s text t =
+      (r : Result Reply SeatFault) × answers s (Whereis x) false r t × (said : Option (List ℕ)) × IsSaidOf t r said × (text ≡ look_up_text r said)
+
+  -- This is printed for what a line asks of what the server knows, or says of a process; or what came of waiting
+  abbrev pub HeedsInquiry : S → List Process → Inquiry → List ℕ → S → Type 0
+  HeedsInquiry s links (inquiry.Describe p said) text t = SaysOfProcess p said s text t
+  HeedsInquiry s links (inquiry.Description p) text t = TellsOfProcess p s text t
+  HeedsInquiry s links (inquiry.Find x) text t = FindsName x s text t
+  HeedsInquiry s links (inquiry.Wait awaited) text t =
+      (r : Result Reply SeatFault) × answers s (Wait awaited) (may_wait (Wait awaited) links) r t × (text ≡ outcome_text r)
+
 module _ {S : Type 0} (answers : Answering S) (stands : Stands S) (stays : Bool) where
   -- This is printed for what a line says, this is left, and so it ends the console, if it does: an order is printed as it was answered,
   -- and how the node and the server stand as it was told, which asks for nothing. Of the names that were answered only those are printed
@@ -102,10 +135,11 @@ module _ {S : Type 0} (answers : Answering S) (stands : Stands S) (stays : Bool)
   Heeds s (Ok Quit) text t ended = (text ≡ okay) × (t ≡ s) × (ended ≡ Some by.Quit)
   Heeds s (Ok Shutdown) text t ended = (text ≡ okay) × (t ≡ s) × (ended ≡ Some by.Shutdown)
   Heeds s (Ok Status) text t ended =
-      (r : Result Standing SeatFault) × stands s.state r × (text ≡ status_outcome r) × (t ≡ s) × (ended ≡ None)
+      (r : Result Standing SeatFault) × stands s.state (Stand r) × (text ≡ status_outcome r) × (t ≡ s) × (ended ≡ None)
   Heeds s (Ok Help) text t ended = (text ≡ help_line) × (t ≡ s) × (ended ≡ None)
   Heeds s (Ok (NamesFrom prefix)) text t ended =
       ChoosesNames answers prefix s.state text t.state × (t.links ≡ s.links) × (ended ≡ None)
+  Heeds s (Ok (Inquire i)) text t ended = HeedsInquiry answers stands s.state s.links i text t.state × (t.links ≡ s.links) × (ended ≡ None)
   Heeds s (Err f) text t ended = (text ≡ error_line (word_of f)) × (t ≡ s) × (ended ≡ None)
 
   -- the same, for a line of a server that stays or of another

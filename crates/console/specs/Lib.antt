@@ -2,6 +2,7 @@ pub use Rattle.command_lines.specs.Printing
 pub mod Cookies
 pub mod Faults
 pub mod Clients
+pub mod Waits
 pub mod Links
 pub mod Locking
 pub mod Commands
@@ -9,6 +10,7 @@ pub mod Greetings
 pub mod Outcomes
 pub mod Chosen
 pub mod Help
+pub mod Describing
 pub mod Consoles
 pub mod Seats
 pub mod Statuses

@@ -10,7 +10,7 @@ use Rattle.command_lines.specs.Printing.{pid_text}
 use Rattle.node_seats.specs.declared.fault.SeatFault.{SeatFault}
 use Rattle.console.specs.declared.links.Links.{Links}
 use Rattle.console.specs.declared.orders.Order.{Order}
-use Rattle.console.specs.declared.orders.Order.TheVariants.{Call, Exit}
+use Rattle.console.specs.declared.orders.Order.TheVariants.{Call, Exit, Wait}
 
 -- how many a console may have
 abbrev pub most_links : ℕ
@@ -33,9 +33,11 @@ abbrev pub linked_by : Result Reply SeatFault → List Process
 linked_by (Ok (Pid p)) = p ∷ []
 linked_by _ = []
 
--- whether an order may wait that one of these processes makes: a lock call
+-- whether an order may wait that goes with one of these processes: its lock call; and any wait where there is one, since they all exit with
+-- the console
 abbrev pub may_wait : Order → List Process → Bool
 may_wait (Call (SetLock holder id nodes retries)) links = list_any (λ q. is_process q holder) links
+may_wait (Wait awaited) links = nat_lt 0 (length links)
 may_wait _ links = false
 
 -- those that stay linked where this one has exited

@@ -1,5 +1,5 @@
 -- A seat that answers what lines ask.
-use Rattle.std.specs.Prelude.{Bool, ◌≡◌, Option, Result, Ok, Err}
+use Rattle.std.specs.Prelude.{ℕ, zero, suc, Bool, ◌≡◌, ◌⊎◌, ⊤, Option, Some, None, Result, Ok, Err}
 use Rattle.command_lines.specs.declared.Reply.{Reply}
 use Rattle.command_lines.specs.declared.Reply.TheVariants as reply
 use Rattle.node_seats.specs.declared.Transcript.{Transcript}
@@ -7,21 +7,50 @@ use Rattle.command_lines.specs.declared.Event.TheVariants as event
 use Rattle.node_seats.specs.declared.Effect.TheVariants.{Made, Left}
 use Rattle.node_seats.specs.declared.fault.SeatFault.{SeatFault}
 use Rattle.registry_model.specs.Process.{Process}
+use Rattle.node_seats.specs.declared.fault.SeatFault.TheVariants.{Step, Memory}
+use Rattle.node_seats.specs.declared.StepFault.TheVariants.{NoSuchProcess}
 use Rattle.node_seats.specs.Callers.{IsEnd}
 use Rattle.node_seats.specs.Seats.{Sitting, Answered, Unanswered, Done, LooksUp, owner_reply}
 use Rattle.console.specs.declared.orders.Order.{Order}
-use Rattle.console.specs.declared.orders.Order.TheVariants.{Call, Whereis, Exit, Leave}
-use Rattle.console.specs.declared.status.Status.{Status}
+use Rattle.console.specs.declared.orders.Order.TheVariants.{Call, Whereis, Exit, Leave, Wait}
+use Rattle.console.specs.declared.orders.Awaited.{Awaited}
+use Rattle.console.specs.declared.describing.DescribeFault.TheVariants.{Seat, TooMany}
+use Rattle.console.specs.Describing.{Fact, Said, Says, Stand}
+use Rattle.console.specs.Waits.{awaited_name, met_by}
+
+-- so a wait ends: what is answered is what the last look-up found, or why there is none; or nobody waits any more, or no reply comes any more
+abbrev pub EndsWait : Awaited → Sitting → Result Reply SeatFault → Sitting → Type 0
+EndsWait a s (Ok r) t = (owner : Option Process) × LooksUp (awaited_name a) (Ok owner) s t × (met_by a owner ≡ Some r)
+EndsWait a s (Err f) t = LooksUp (awaited_name a) (Err f) s t ⊎ (IsEnd f × (t ≡ s))
+
+-- a look-up didn't find what is waited for
+abbrev pub LooksPast : Awaited → Sitting → Sitting → Type 0
+LooksPast a s t = (owner : Option Process) × LooksUp (awaited_name a) (Ok owner) s t × (met_by a owner ≡ None)
+
+-- nor did so many, one after another
+abbrev pub LooksOn : Awaited → ℕ → Sitting → Sitting → Type 0
+LooksOn a zero s t = t ≡ s
+LooksOn a (suc n) s t = (u : Sitting) × LooksPast a s u × LooksOn a n u t
+
+-- nor did any so far
+pub record StillWaits (a : Awaited) (s t : Sitting) : Type 0 where
+  pub looks : ℕ
+  pub looked : LooksOn a looks s t
+
+-- what came of waiting: no look-up before the last one found what is waited for
+abbrev pub Waited : Awaited → Sitting → Result Reply SeatFault → Sitting → Type 0
+Waited a s r t = (last : Sitting) × StillWaits a s last × EndsWait a last r t
 
 -- What an order was answered: the seat asked its node for just that, once, was told the answer by the node's loop, and it stands last in the
 -- seat's transcript. For a refused one it asked once at most, and the transcript stays. A look-up asks the node for nothing: it is one in a
--- table that the node has shown
+-- table that the node has shown, and a wait is many of them
 abbrev pub SeatGives : Sitting → Order → Result Reply SeatFault → Sitting → Type 0
 SeatGives s (Call c) (Ok r) t = Answered c r s t
 SeatGives s (Whereis x) (Ok r) t = (owner : Option Process) × (r ≡ owner_reply owner) × LooksUp x (Ok owner) s t
 SeatGives s (Whereis x) (Err f) t = LooksUp x (Err f) s t
 SeatGives s (Exit p) (Ok r) t = (r ≡ reply.Ok) × Done (event.Exit p) Made s t
 SeatGives s Leave (Ok r) t = (r ≡ reply.Ok) × Done event.Leave Left s t
+SeatGives s (Wait a) r t = Waited a s r t
 SeatGives s (Call c) (Err f) t = Unanswered f (event.Call c) s t
 SeatGives s (Exit p) (Err f) t = Unanswered f (event.Exit p) s t
 SeatGives s Leave (Err f) t = Unanswered f event.Leave s t
@@ -30,10 +59,22 @@ SeatGives s Leave (Err f) t = Unanswered f event.Leave s t
 abbrev pub SeatAnswers : Sitting → Order → Bool → Result Reply SeatFault → Sitting → Type 0
 SeatAnswers s order linked r t = SeatGives s order r t
 
--- how a seat's node stands is told of that node; or no reply comes any more
-abbrev pub SeatStands : Sitting → Result Status SeatFault → Type 0
-SeatStands s (Ok status) = status.node.node ≡ s.node
-SeatStands s (Err f) = IsEnd f
+-- why nothing is said of a process at a seat: it is one of another node, or has a serial that wasn't given; or no reply comes any more, or there
+-- is no memory
+abbrev pub MayNotSay : SeatFault → Type 0
+MayNotSay (Step NoSuchProcess) = ⊤
+MayNotSay Memory = ⊤
+MayNotSay f = IsEnd f
+
+-- how a seat's node stands is told of that node; or no reply comes any more. Something is said only of the processes of that node. What lies
+-- under the lock of what was said no clause tells
+abbrev pub SeatStands : Sitting → Fact → Type 0
+SeatStands s (Stand (Ok status)) = status.node.node ≡ s.node
+SeatStands s (Stand (Err f)) = IsEnd f
+SeatStands s (Said p said) = ⊤
+SeatStands s (Says p text (Ok u)) = p.node ≡ s.node
+SeatStands s (Says p text (Err TooMany)) = p.node ≡ s.node
+SeatStands s (Says p text (Err (Seat f))) = MayNotSay f
 
 -- this is the transcript of the seat
 pub record IsTranscript (s : Sitting) (transcript : Transcript) : Type 0 where

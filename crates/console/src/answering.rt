@@ -4,24 +4,27 @@ ghost use Rattle.std.specs.Io.Buffered.{reader_remaining};
 ghost use Rattle.std.specs.Io.KnownBytes.{Keeps};
 ghost use Rattle.text_lines.specs.Lines.{IsKept};
 ghost use Rattle.text_lines.specs.Writing.{Writes};
-ghost use Rattle.console.specs.Consoles.{AnswersLine, ChoosesNames, EndsBy, Exits, HeedsSpawnLink, MayAnswer, MaySpawnLinked, SpawnsLinked, Stops, TalkStops, TalksUntil, Tells, TellStops, talk};
+ghost use Rattle.console.specs.Consoles.{AnswersLine, ChoosesNames, EndsBy, Exits, FindsName, HeedsInquiry, HeedsSpawnLink, IsSaidOf, MayAnswer, MaySpawnLinked, SaysOfProcess, SpawnsLinked, Stops, TalkStops, TalksUntil, Tells, TellsOfProcess, TellStops, talk};
 ghost use Rattle.console.specs.Links.{left_by, linked_in, may_wait};
+ghost use Rattle.console.specs.declared.orders.Inquiry.TheVariants.{Wait};
 
 use crate::attendant::Attendant;
 use crate::chosen::chosen_line;
 use crate::commands::read_command;
 use crate::counting::next_line;
+use crate::describing::{describe_line, description_line, look_up_line};
 use crate::ends::ConsoleEnd;
 use crate::help::help_line;
 use crate::links::Links;
-use crate::orders::{Command, Order};
+use crate::orders::{Awaited, Command, Inquiry, Order};
 use crate::outcomes::outcome_line;
 use crate::status::status_line;
 use command_lines::{Call, Reply, text_of};
+use descriptions::Description;
 use node_seats::SeatFault;
 use std::alloc::{AllocError, Global};
 use std::io::{BufReader, Read, Write};
-use term::Name;
+use term::{Name, Pid};
 use text_lines::{Line, StreamFault, WriteFault, first_words, hand_on, tell, write_text};
 
 /// Asks something of the attendant. A process whose exit was made is linked no longer.
@@ -102,6 +105,110 @@ fn chosen_names<H, A: Attendant<H>>(
     chosen_line(alloc, attendant.node(), prefix, outcome)
 }
 
+/// What is answered where something is to be said of a process.
+fn describe<H, A: Attendant<H>>(
+    rt: &H,
+    alloc: Global,
+    attendant: &A,
+    process: &Pid,
+    text: &Description,
+) -> Result<String, AllocError>
+    ensures { MatchResult result
+        (λ line. SaysOfProcess A.answers A.stands process.now text.now (A.state attendant.now) (string_bytes line) (A.state attendant.now))
+        (λ _. (line : List ℕ) × SaysOfProcess A.answers A.stands process.now text.now (A.state attendant.now) line
+        (A.state attendant.now)) }
+{
+    let outcome = attendant.describe(rt, process, text);
+    describe_line(alloc, &outcome)
+}
+
+/// What is answered where it is asked what was said of a process.
+fn tell_description<H, A: Attendant<H>>(
+    rt: &H,
+    alloc: Global,
+    attendant: &A,
+    process: &Pid,
+) -> Result<String, AllocError>
+    ensures { MatchResult result
+        (λ line. TellsOfProcess A.answers A.stands process.now (A.state attendant.now) (string_bytes line) (A.state attendant.now))
+        (λ _. (line : List ℕ) × TellsOfProcess A.answers A.stands process.now (A.state attendant.now) line (A.state attendant.now)) }
+{
+    let said = attendant.description(rt, process);
+    description_line(alloc, said)
+}
+
+/// What was said of the process that a look-up found, if it found one.
+fn said_of<H, A: Attendant<H>>(
+    rt: &H,
+    attendant: &A,
+    outcome: &Result<Reply, SeatFault>,
+) -> Option<Description>
+    ensures { IsSaidOf A.answers A.stands (A.state attendant.now) outcome.now result }
+{
+    match outcome {
+        Ok(Reply::Pid(process)) => attendant.description(rt, process),
+        _ => None,
+    }
+}
+
+/// What a look-up of a name is answered, with what was said of the process.
+fn find<H, A: Attendant<H>>(
+    rt: &H,
+    alloc: Global,
+    attendant: &mut A,
+    name: Name,
+) -> Result<String, AllocError>
+    ensures { MatchResult result
+        (λ line. FindsName A.answers A.stands name (A.state attendant.old) (string_bytes line) (A.state attendant.new))
+        (λ _. (line : List ℕ) × FindsName A.answers A.stands name (A.state attendant.old) line (A.state attendant.new)) }
+{
+    let outcome = attendant.ask(rt, Order::Whereis(name), false);
+    let said = said_of(rt, attendant, &outcome);
+    look_up_line(alloc, attendant.node(), outcome, said)
+}
+
+/// What a wait is answered.
+fn wait<H, A: Attendant<H>>(
+    rt: &H,
+    alloc: Global,
+    attendant: &mut A,
+    links: &Links,
+    awaited: Awaited,
+) -> Result<String, AllocError>
+    ensures { MatchResult result
+        (λ text. HeedsInquiry A.answers A.stands (A.state attendant.old) (linked_in links.now) (Wait awaited) (string_bytes text)
+        (A.state attendant.new))
+        (λ _. (text : List ℕ) × HeedsInquiry A.answers A.stands (A.state attendant.old) (linked_in links.now) (Wait awaited) text
+        (A.state attendant.new)) }
+{
+    let order = Order::Wait(awaited);
+    let linked = links.may_wait(&order);
+    let outcome = attendant.ask(rt, order, linked);
+    outcome_line(alloc, attendant.node(), outcome)
+}
+
+/// What is answered to a line that asks what the server knows, or says something of a process.
+fn reply_to_inquiry<H, A: Attendant<H>>(
+    rt: &H,
+    alloc: Global,
+    attendant: &mut A,
+    links: &Links,
+    inquiry: Inquiry,
+) -> Result<String, AllocError>
+    ensures { MatchResult result
+        (λ text. HeedsInquiry A.answers A.stands (A.state attendant.old) (linked_in links.now) inquiry (string_bytes text)
+        (A.state attendant.new))
+        (λ _. (text : List ℕ) × HeedsInquiry A.answers A.stands (A.state attendant.old) (linked_in links.now) inquiry text
+        (A.state attendant.new)) }
+{
+    match inquiry {
+        Inquiry::Describe(process, text) => describe(rt, alloc, attendant, &process, &text),
+        Inquiry::Description(process) => tell_description(rt, alloc, attendant, &process),
+        Inquiry::Find(name) => find(rt, alloc, attendant, name),
+        Inquiry::Wait(awaited) => wait(rt, alloc, attendant, links, awaited),
+    }
+}
+
 /// Has a line answered: the text, and how it ends the console, where it does.
 fn reply_to<H, A: Attendant<H>>(
     rt: &H,
@@ -136,26 +243,30 @@ fn reply_to<H, A: Attendant<H>>(
             let text = chosen_names(rt, alloc, attendant, &prefix)?;
             Ok((text, None))
         }
+        Ok(Command::Inquire(inquiry)) => {
+            let text = reply_to_inquiry(rt, alloc, attendant, links, inquiry)?;
+            Ok((text, None))
+        }
         Ok(Command::Quit) => Ok((String::from_str(alloc, "ok\n")?, Some(ConsoleEnd::Quit))),
         Ok(Command::Shutdown) => Ok((String::from_str(alloc, "ok\n")?, Some(ConsoleEnd::Shutdown))),
         Err(fault) => Ok((String::from_str(alloc, fault.line())?, None)),
     }
 }
 
-/// Whether a line asks for a lock, which may be waited for.
-fn asks_for_a_lock(line: &Line) -> bool {
+/// Whether a line asks for what may be waited for.
+fn may_take_long(line: &Line) -> bool {
     match text_of(line) {
         Ok(text) =>
-            matches!(first_words(text).as_slice().first(), Some(word) if matches!(*word, "set_lock")),
+            matches!(first_words(text).as_slice().first(), Some(word) if matches!(*word, "set_lock" | "wait")),
         Err(_) => false,
     }
 }
 
-/// Hands on the answers to lines before this one, where it may be waited for. A writer that fails then fails again with the answer.
+/// Hands on the answers to lines before this one, where that may take long. A writer that fails then fails again with the answer.
 fn hand_on_before<W: Write>(writer: &mut W, line: &Line)
     ensures { Keeps (W.contents writer.old) (W.contents writer.new) }
 {
-    if asks_for_a_lock(line) {
+    if may_take_long(line) {
         let _ = hand_on(writer);
     }
 }
@@ -238,11 +349,13 @@ fn exit_all<H, A: Attendant<H>>(rt: &H, attendant: &mut A, links: &Links)
 
 /// Reads lines until `quit` or the end of the input, and answers each with one line: how the console ended. In a console of a
 /// server that stays `shutdown` is answered `ok` and ends it, too, `status` tells how the node and the server stand, `help` which lines
-/// there are, and `names` with the beginning of names those that have it. It answers `most` lines at most.
+/// there are, and `names` with the beginning of names those that have it; `describe` says something of a process, or asks what was said,
+/// which `find` tells with the process of a name, and `wait` is answered once a name is there, or isn't that process's. It answers `most`
+/// lines at most.
 ///
 /// A line that asks something is asked of the attendant, and answered with the text of the reply or the word of the refusal;
 /// any other is refused, an empty one too. What was answered is handed on before the console waits: for a further line where none is at
-/// hand, or for a lock. An answer that ends the console is handed on at once; where a fault ends it, answers that were written may not be
+/// hand, for a lock or for a name. An answer that ends the console is handed on at once; where a fault ends it, answers that were written may not be
 /// handed on yet. `Read` and `TooManyLines`: all lines that were read are answered. `Write` and `Memory`: a part of the answers is written,
 /// and nothing behind it.
 ///

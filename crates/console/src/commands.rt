@@ -1,5 +1,5 @@
 //! What the lines of a console say: an arm for each.
-ghost use Rattle.std.specs.Prelude.{◌≡◌, ◌≢◌, ◌∷◌, [], ℕ, List, Some, true, map, take, IfOk, MatchBool, MatchOption, MatchResult};
+ghost use Rattle.std.specs.Prelude.{◌≡◌, ◌≢◌, ◌∷◌, [], ℕ, Bool, List, Some, true, map, take, IfOk, MatchBool, MatchOption, MatchResult};
 ghost use Rattle.std.specs.Option.{option_map};
 ghost use Rattle.text_lines.specs.Lines.{IsKept};
 ghost use Rattle.text_lines.specs.Words.{words as words_in};
@@ -7,11 +7,12 @@ ghost use Rattle.command_lines.specs.Commands.{asked_by};
 ghost use Rattle.term.specs.Rules.{SpellsRule};
 ghost use Rattle.term.specs.Spelling.{SpellsText, SpellsPid};
 ghost use Rattle.command_lines.specs.Grammar.{WordsAsk, FirstRefused, Name as AName, Pid as APid, Rule as ARule};
-ghost use Rattle.console.specs.Commands.{LineSays, WordsAskNode, WordsSay, SaysAtStaying, SaysElse, BeginsNames, AsksOwn, AsksAsScript, OwnAsk, begins_lock, process_first, process_second, is_lock_word as any_lock_word, meant, meant_by, help, names_with, quit, shutdown, spawn_link, status};
+ghost use Rattle.console.specs.Commands.{LineSays, WordsAskNode, WordsSay, SaysAtStaying, SaysElse, TextSays, AsksServer, BeginsNames, AsksOwn, AsksAsScript, OwnAsk, begins_lock, process_first, process_second, is_lock_word as any_lock_word, meant, meant_by, help, names_with, quit, shutdown, spawn_link, status};
 ghost use Rattle.console.specs.Links.{linked_in, own_text};
 
+use crate::inquiries::{behind_word, described_in, inquiry_in, read_described};
 use crate::links::Links;
-use crate::orders::{Command, Order};
+use crate::orders::{Command, Inquiry, Order};
 use arrayvec::ArrayVec;
 use command_lines::{Call, Event, LineFault, Pair, Task, WorldEvent, ran_out, read_words, text_of};
 use std::alloc::{AllocError, Global};
@@ -19,7 +20,7 @@ use term::{Name, Pid, Rule, TextFault, parse_name, parse_node, parse_pid, parse_
 use text_lines::{Line, MOST_WORDS, first_words};
 
 /// The values of two texts, or the fault of the first that spells none.
-fn name_and_pid(name: &str, pid: &str) -> Result<(Name, Pid), TextFault>
+pub(crate) fn name_and_pid(name: &str, pid: &str) -> Result<(Name, Pid), TextFault>
     ensures { MatchResult result (λ v. SpellsText name.now v.0 × SpellsPid pid.now v.1)
         (FirstRefused (AName ∷ APid ∷ []) (name.now ∷ pid.now ∷ [])) }
 {
@@ -234,6 +235,16 @@ fn read_order(alloc: Global, words: &[&str]) -> Result<Result<Order, LineFault>,
     }
 }
 
+/// What a line says that asks what a server knows.
+fn asking(inquiry: Result<Inquiry, LineFault>) -> Result<Command, LineFault>
+    ensures { (stays : Bool) (ws : List (List ℕ)) → AsksServer stays ws inquiry → WordsSay stays ws result }
+{
+    match inquiry {
+        Ok(inquiry) => Ok(Command::Inquire(inquiry)),
+        Err(fault) => Err(fault),
+    }
+}
+
 /// What words say, in a console of a server that stays or of another.
 fn read_said(
     alloc: Global,
@@ -260,6 +271,9 @@ fn read_said(
     if let Some(text) = beginning_in(words, stays) {
         return Ok(read_beginning(text));
     }
+    if let Some(inquiry) = inquiry_in(words, stays) {
+        return Ok(asking(inquiry));
+    }
     match read_order(alloc, words)? {
         Ok(order) => Ok(Ok(Command::Ask(order))),
         Err(fault) => Ok(Err(fault)),
@@ -270,14 +284,17 @@ fn read_said(
 fn takes_process_first(word: &str) -> bool
     ensures { result ≡ process_first word.now }
 {
-    matches!(word, "exit" | "notices" | "set_lock" | "del_lock")
+    matches!(
+        word,
+        "exit" | "notices" | "describe" | "set_lock" | "del_lock"
+    )
 }
 
 /// Whether a process stands second behind this word.
 fn takes_process_second(word: &str) -> bool
     ensures { result ≡ process_second word.now }
 {
-    matches!(word, "register" | "re_register")
+    matches!(word, "register" | "re_register" | "wait")
 }
 
 /// What a text means, by whether a process stands there: `self` is the console's own one then.
@@ -316,9 +333,19 @@ fn meant_words<'a>(text: &'a str, own: Option<&'a str>) -> ArrayVec<&'a str, MOS
     words
 }
 
-/// What a text says, in a console with this process of its own.
+/// What the text of a process means: `self` is the console's own one, where it has one.
+fn meant_process<'a>(text: &'a str, own: Option<&'a str>) -> &'a str
+    ensures { result.now ≡ meant_by (option_map (λ text. text.now) own.entry) true text.now }
+{
+    match own {
+        Some(own) => meant_text(text, true, own),
+        None => text,
+    }
+}
+
+/// What the words of a text say, in a console with this process of its own.
 #[tactic(auto, using(crate::proofs::Meaning::first_words_say))]
-fn read_text(
+fn read_meant(
     alloc: Global,
     text: &str,
     own: Option<&str>,
@@ -327,6 +354,25 @@ fn read_text(
     ensures { IfOk result (WordsSay stays (meant (option_map (λ text. text.now) own.entry) (words_in text.now))) }
 {
     read_said(alloc, &meant_words(text, own), stays)
+}
+
+/// What a text says, in a console with this process of its own.
+#[tactic(auto, using(crate::proofs::Meaning::text_describes, crate::proofs::Meaning::text_says))]
+fn read_text(
+    alloc: Global,
+    text: &str,
+    own: Option<&str>,
+    stays: bool,
+) -> Result<Result<Command, LineFault>, AllocError>
+    ensures { IfOk result (TextSays stays (option_map (λ text. text.now) own.entry) text.now) }
+{
+    match described_in(&first_words(text), stays) {
+        Some(process) => {
+            let said = behind_word(behind_word(text));
+            Ok(read_described(meant_process(process, own), said))
+        }
+        None => read_meant(alloc, text, own, stays),
+    }
 }
 
 /// What a line says, in a console of a server that stays or of another, or why it is refused. `self` is the process that was linked

@@ -52,12 +52,13 @@ impl Links {
         self.processes.len() >= MOST_LINKS
     }
 
-    /// Whether an order is the call of one of them that may wait.
+    /// Whether an order may wait, and goes with one of them: its lock call, or a wait, which keeps all of them from their exit.
     pub(crate) fn may_wait(&self, order: &Order) -> bool
         ensures { result ≡ may_wait order.now (linked_in self.now) }
     {
         match order {
             Order::Call(Call::SetLock(holder, ..)) => self.as_slice().contains(holder),
+            Order::Wait(_) => !self.processes.is_empty(),
             _ => false,
         }
     }

@@ -1,35 +1,45 @@
 //! Consoles at seats.
-ghost use Rattle.std.specs.Prelude.{◌≡◌, false, true, IfErr, IfOk, IfSome, MatchResult};
+ghost use Rattle.std.specs.Prelude.{◌≡◌, false, true, IfErr, IfNone, IfOk, IfSome, MatchOption, MatchResult};
 ghost use Rattle.std.specs.Io.Buffered.{reader_remaining};
 ghost use Rattle.text_lines.specs.Lines.{most_lines};
 ghost use Rattle.node_seats.specs.Callers.{IsEnd};
 ghost use Rattle.node_seats.specs.Faults.{IsUnmade};
-ghost use Rattle.node_seats.specs.Seats.{Sitting};
 ghost use Rattle.console.specs.Clients.{is_given_up};
 ghost use Rattle.console.specs.Locking.{is_lock_call as any_lock_call};
 ghost use Rattle.console.specs.Consoles.{EndsBy, Serves, Stops, most_staying};
-ghost use Rattle.console.specs.Seats.{SeatAnswers, SeatGives, SeatStands, IsTranscript};
-ghost use Rattle.console.specs.declared.orders.Order.TheVariants.{Call as Calls, Whereis, Exit, Leave};
+ghost use Rattle.console.specs.Describing.{Says};
+ghost use Rattle.console.specs.Seats.{EndsWait, LooksPast, MayNotSay, SeatAnswers, SeatGives, SeatStands, IsTranscript};
+ghost use Rattle.node_seats.specs.Seats.{Sitting};
+ghost use Rattle.console.specs.declared.orders.Order.TheVariants.{Call as Calls, Whereis, Exit, Leave, Wait as Waits};
 
 use crate::answering::answer_lines;
 use crate::attendant::Attendant;
 use crate::client::{Client, Peer};
+use crate::describing::DescribeFault;
 use crate::ends::ConsoleEnd;
 use crate::locking::{is_lock_call, may_hold, request_of, waits_in_line};
-use crate::orders::Order;
+use crate::orders::{Awaited, Order};
 use crate::status::{House, Load, Status};
 use command_lines::{Call, Reply};
+use descriptions::{Description, DescriptionFault};
 use lock_lines::{Request, Turn};
-use node_seats::{Beside, Notes, Seat, SeatFault, Transcript};
+use node_seats::{Beside, Notes, Seat, SeatFault, StepFault, Transcript};
 use std::alloc::Global;
 use std::io::{BufReader, Read, Write};
 use std::sync::Wait;
-use std::time::Clock;
+use std::thread;
+use std::time::{Clock, Duration};
 use term::{Name, Node, Pid};
 use text_lines::{MOST_LINES, StreamFault};
 
 /// How many lines a console of a server that stays may have: more than come.
 const MOST_STAYING: u64 = u64::MAX;
+
+/// After how long a name is looked up again that is waited for, at first, in milliseconds.
+const FIRST_PAUSE: u64 = 1;
+
+/// After how long it is at most.
+const LONGEST_PAUSE: u64 = 20;
 
 /// Looks a name up from a seat.
 fn look_up<T: Notes>(seat: &mut Seat<T>, name: &Name) -> Result<Reply, SeatFault>
@@ -76,12 +86,15 @@ impl<H: Wait + Clock, T: Notes> Attendant<H> for Seat<T> {
         Seat::<T>::node(self)
     }
 
+    #[tactic(auto, using(crate::proofs::Waiting::none_waits))]
     fn ask(&mut self, rt: &H, order: Order, _linked: bool) -> Result<Reply, SeatFault> {
         match order {
             Order::Call(call) => self.call(rt, call),
             Order::Whereis(name) => look_up(self, &name),
             Order::Exit(process) => exit(rt, self, &process),
             Order::Leave => leave(rt, self),
+            // A seat alone knows of nobody who would wait.
+            Order::Wait(_) => Err(SeatFault::Closed),
         }
     }
 
@@ -96,6 +109,19 @@ impl<H: Wait + Clock, T: Notes> Attendant<H> for Seat<T> {
             },
         })
     }
+
+    fn describe(&self, _rt: &H, _process: &Pid, _text: &Description) -> Result<(), DescribeFault> {
+        Err(DescribeFault::Seat(SeatFault::Closed))
+    }
+
+    fn description(&self, _rt: &H, _process: &Pid) -> Option<Description> {
+        None
+    }
+}
+
+/// After how long it is looked again, behind a pause of so long.
+fn longer(pause: u64) -> u64 {
+    (pause.min(LONGEST_PAUSE) * 2).min(LONGEST_PAUSE)
 }
 
 /// The client of a console, while a call waits that it has made.
@@ -216,7 +242,7 @@ impl<'a, T: Notes, C: Client + Drop, B> ClientSeat<'a, T, C, B> {
                 return Ok(turn);
             }
             turn.rest(rt);
-            if let Some(fault) = self.needs_no_turn(linked) {
+            if let Some(fault) = self.why_give_up(linked) {
                 lines.leave(rt, turn);
                 return Err(fault);
             }
@@ -224,8 +250,8 @@ impl<'a, T: Notes, C: Client + Drop, B> ClientSeat<'a, T, C, B> {
         unreachable!()
     }
 
-    /// Why a call needs no turn any more, if it needs none: its client has gone, or its node answers nobody.
-    fn needs_no_turn(&self, linked: bool) -> Option<SeatFault>
+    /// Why nothing is waited for any more, if there is a cause: the client has gone, or the node answers nobody.
+    fn why_give_up(&self, linked: bool) -> Option<SeatFault>
         ensures { IfSome result IsEnd }
     {
         if is_given_up(self.client.peer(), linked) {
@@ -289,6 +315,7 @@ impl<'a, T: Notes, C: Client + Drop, B> ClientSeat<'a, T, C, B> {
         let outcome = exit(rt, &mut self.seat, process);
         if outcome.is_ok() {
             self.house.lines().bury(rt, process);
+            self.house.descriptions().bury(rt, process);
         }
         outcome
     }
@@ -302,8 +329,83 @@ impl<'a, T: Notes, C: Client + Drop, B> ClientSeat<'a, T, C, B> {
         let outcome = leave(rt, &mut self.seat);
         if outcome.is_ok() {
             self.house.lines().forget(rt, self.seat.node());
+            self.house.descriptions().forget(rt, self.seat.node());
         }
         outcome
+    }
+
+    /// Looks a name up: what who waits is answered, unless it is to be looked up again.
+    fn look_for(&mut self, awaited: &Awaited) -> Option<Result<Reply, SeatFault>>
+        ensures { MatchOption result (LooksPast awaited.now self.old.seat self.new.seat)
+            (λ outcome. EndsWait awaited.now self.old.seat outcome self.new.seat) }
+    {
+        match self.seat.whereis(awaited.name()) {
+            Ok(owner) => match awaited.met_by(owner) {
+                Some(answer) => Some(Ok(answer)),
+                None => None,
+            },
+            Err(fault) => Some(Err(fault)),
+        }
+    }
+
+    /// Looks a name up again and again, until it finds what is waited for, or nobody waits any more.
+    #[tactic(auto, using(crate::proofs::Waiting::waits_begin, crate::proofs::Waiting::waits_on, crate::proofs::Waiting::given_up))]
+    fn wait<H: Wait + Clock>(
+        &mut self,
+        rt: &H,
+        awaited: &Awaited,
+        linked: bool,
+    ) -> Result<Reply, SeatFault>
+        ensures { SeatGives self.old.seat (Waits awaited.now) result self.new.seat }
+    {
+        let mut pause = FIRST_PAUSE;
+        for _ in rt.forever() {
+            if let Some(outcome) = self.look_for(awaited) {
+                return outcome;
+            }
+            if let Some(fault) = self.why_give_up(linked) {
+                return Err(fault);
+            }
+            thread::sleep(rt, Duration::from_millis(pause));
+            pause = longer(pause);
+        }
+        unreachable!()
+    }
+
+    /// Why nothing may be said of a process from here, if there is a cause: the node answers nobody, or the process is none that it gave.
+    fn why_not_say(&self, process: &Pid) -> Option<SeatFault>
+        ensures unsaid { IfSome result MayNotSay }
+        ensures here { IfNone result (process.now.node ≡ self.now.seat.node) }
+    {
+        let status = match self.seat.status() {
+            Ok(status) => status,
+            Err(fault) => return Some(fault),
+        };
+        if process.node == *self.seat.node() && process.serial <= status.numbers.serials {
+            None
+        } else {
+            Some(SeatFault::Step(StepFault::NoSuchProcess))
+        }
+    }
+
+    /// Tells the house what is said of a process of the node.
+    fn say<H: Wait>(&self, rt: &H, process: &Pid, text: &Description) -> Result<(), DescribeFault>
+    where
+        B: House<H>,
+        ensures { SeatStands self.now.seat (Says process.now text.now result) }
+    {
+        if let Some(fault) = self.why_not_say(process) {
+            return Err(DescribeFault::Seat(fault));
+        }
+        match self
+            .house
+            .descriptions()
+            .set(rt, process.copy(), text.copy())
+        {
+            Ok(()) => Ok(()),
+            Err(DescriptionFault::TooMany) => Err(DescribeFault::TooMany),
+            Err(DescriptionFault::Memory) => Err(DescribeFault::Seat(SeatFault::Memory)),
+        }
     }
 
     /// How the node of the seat stands, and what the house bears.
@@ -347,11 +449,20 @@ where
             Order::Whereis(name) => look_up(&mut self.seat, &name),
             Order::Exit(process) => self.exit(rt, &process),
             Order::Leave => self.leave(rt),
+            Order::Wait(awaited) => self.wait(rt, &awaited, linked),
         }
     }
 
     fn status(&self, rt: &H) -> Result<Status, SeatFault> {
         self.standing(rt)
+    }
+
+    fn describe(&self, rt: &H, process: &Pid, text: &Description) -> Result<(), DescribeFault> {
+        self.say(rt, process, text)
+    }
+
+    fn description(&self, rt: &H, process: &Pid) -> Option<Description> {
+        self.house.descriptions().get(rt, process)
     }
 }
 
@@ -388,7 +499,7 @@ pub fn serve<R: Read, W: Write, H: Wait + Clock>(
 /// ended is told; what the server does then is for the caller.
 ///
 /// A lock call that waits is given up, and answered `error closed`, where its client is gone; and, where it is the call of a linked
-/// process, also where the console's input has ended, as that process exits then.
+/// process, also where the console's input has ended, as that process exits then. So is a wait for a name, where any process is linked.
 pub fn serve_staying<R, W, H, T, C, B>(
     rt: &H,
     alloc: Global,

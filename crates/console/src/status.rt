@@ -4,6 +4,7 @@ ghost use Rattle.console.specs.declared.status.Load.{Load as AnyLoad};
 ghost use Rattle.console.specs.Statuses.{load_text, node_text, numbers_text, status_line as any_line, status_outcome, standing_word};
 
 use crate::outcomes::seat_line;
+use descriptions::SharedDescriptions;
 use lock_lines::LockLines;
 use node_seats::{NodeStatus, Numbers, SeatFault};
 use std::alloc::{AllocError, Global};
@@ -38,6 +39,9 @@ pub trait House<H> {
 
     /// The lines in which the lock calls of its consoles wait.
     fn lines(&self) -> &LockLines;
+
+    /// What is said of the processes of its nodes.
+    fn descriptions(&self) -> &SharedDescriptions;
 }
 
 /// The word for whether a node is joined.

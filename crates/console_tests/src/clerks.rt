@@ -1,19 +1,28 @@
 //! Consoles of an attendant that notes what it is asked, and what they write for what they read.
-use console::{Attendant, ConsoleEnd, ConsoleFault, Load, Order, Status, answer_lines};
+use console::{
+    Attendant, ConsoleEnd, ConsoleFault, DescribeFault, Load, Order, Status, answer_lines,
+};
+use descriptions::Description;
 use node_threads::{Call, NodeStatus, Numbers, Reply, SeatFault, StepFault};
 use std::alloc::Global;
 use std::io::{BufReader, Cursor, Read, Write};
 use term::{Node, NodeSet, Pid, parse_node_name};
 
+/// What was said of a process.
+const SAID: &str = " tcp://10.0.0.5:80  v2 ";
+
 /// As many lines as a console of a server that doesn't stay may have.
 pub(crate) const MOST_LINES: u64 = 1_000_000;
 
 /// An attendant at the node `a` that gives a new process for each spawn, answers `true` to all else but exits, and notes what it was asked.
+/// Look-ups may find `a.1`, of which something was said; of `a.7` nothing can be.
 #[derive(Drop)]
 pub(crate) struct Clerk {
     node: Node,
     /// What it answers once, before that.
     pub(crate) fault: Option<SeatFault>,
+    /// Whether look-ups find its first process.
+    pub(crate) finds: bool,
     /// Whether it refuses exits.
     pub(crate) refuses: bool,
     spawned: u32,
@@ -32,6 +41,7 @@ impl Clerk {
             Ok(name) => Some(Clerk {
                 node: Node::first(name),
                 fault: None,
+                finds: false,
                 refuses: false,
                 spawned: 0,
                 exits: Vec::new(alloc),
@@ -39,6 +49,14 @@ impl Clerk {
                 linked: 0,
             }),
             Err(_) => None,
+        }
+    }
+
+    /// Its first process.
+    fn first(&self) -> Pid {
+        Pid {
+            node: self.node.copy(),
+            serial: 1,
         }
     }
 
@@ -90,12 +108,31 @@ impl<H> Attendant<H> for Clerk {
         match order {
             Order::Call(Call::Spawn) => Ok(self.spawn()),
             Order::Exit(process) => self.exit(&process),
+            Order::Whereis(_) if self.finds => Ok(Reply::Pid(self.first())),
             _ => Ok(Reply::True),
         }
     }
 
     fn status(&self, _rt: &H) -> Result<Status, SeatFault> {
         Ok(status_of(&self.node))
+    }
+
+    fn describe(&self, _rt: &H, process: &Pid, text: &Description) -> Result<(), DescribeFault> {
+        if process.serial == 7 {
+            Err(DescribeFault::TooMany)
+        } else if process.node == self.node && text.as_str() == SAID {
+            Ok(())
+        } else {
+            Err(DescribeFault::Seat(SeatFault::Step(StepFault::NoSuchProcess)))
+        }
+    }
+
+    fn description(&self, _rt: &H, process: &Pid) -> Option<Description> {
+        if process.serial == 1 {
+            Description::parse(SAID).ok()
+        } else {
+            None
+        }
     }
 }
 

@@ -1,5 +1,6 @@
 //! Clients at the other end of a console.
 use console::{Client, House, Load, Peer};
+use descriptions::SharedDescriptions;
 use lock_lines::LockLines;
 use std::alloc::Global;
 use std::sync::Arc;
@@ -19,12 +20,14 @@ impl Client for Listener {
 #[derive(Drop)]
 pub(crate) struct Home {
     lines: LockLines,
+    descriptions: SharedDescriptions,
 }
 
 impl Home {
     pub(crate) fn new(alloc: Global) -> Self {
         Home {
             lines: LockLines::new(alloc),
+            descriptions: SharedDescriptions::new(alloc),
         }
     }
 }
@@ -43,6 +46,10 @@ impl<H> House<H> for Home {
 
     fn lines(&self) -> &LockLines {
         &self.lines
+    }
+
+    fn descriptions(&self) -> &SharedDescriptions {
+        &self.descriptions
     }
 }
 

@@ -9,6 +9,8 @@ mod clients;
 #[cfg(test)]
 mod cookies;
 #[cfg(test)]
+mod described;
+#[cfg(test)]
 mod ends;
 #[cfg(test)]
 mod faults;

@@ -1,6 +1,6 @@
 //! Consoles of a server that stays and of others: `shutdown`, `status`, `help`, names by their beginning, as many lines as may come, and how
 //! each console ended.
-use crate::clerks::{Clerk, answers, hold, leaves};
+use crate::clerks::{Clerk, answers, hold, is_answered, leaves};
 use crate::ends::{Ended, ended_by};
 use console::{ConsoleEnd, ConsoleFault};
 use std::alloc::Global;
@@ -54,10 +54,39 @@ fn help_and_names_by_their_beginning_are_lines_of_a_server_that_stays(rt: HostRu
     let text = b"error bad_line\nerror bad_line\n".as_slice();
     assert!(rt; answers(alloc, false, b"help\nnames x\n", text, ConsoleEnd::Input));
     let text =
-        b"help spawn spawn_link exit register re_register unregister whereis names notices set_lock del_lock join \
+        b"help spawn spawn_link exit register re_register unregister whereis names describe find wait notices set_lock del_lock join \
         leave quit status help shutdown\nerror bad_line\nerror bad_byte\nerror bad_line\ntrue\na.1\n";
     let lines = b"help\nhelp me\nnames x!\nnames x y\nnames x\nspawn\n".as_slice();
     assert!(rt; answers(alloc, true, lines, text.as_slice(), ConsoleEnd::Input));
+}
+
+/// Whether an attendant whose look-ups find its first process answers lines with this text.
+fn finds(alloc: Global, lines: &[u8], text: &[u8]) -> bool {
+    match Clerk::new(alloc) {
+        Some(mut clerk) => {
+            clerk.finds = true;
+            is_answered(alloc, &mut clerk, true, lines, text, ConsoleEnd::Input)
+        }
+        None => false,
+    }
+}
+
+#[test]
+fn processes_are_described_at_a_server_that_stays(rt: HostRuntime) {
+    let alloc = rt.alloc();
+    let lines = b"describe a.1\ndescribe a.1 x\nfind x\nwait x\nwait x a.1\n".as_slice();
+    let text =
+        b"error bad_line\nerror bad_line\nerror bad_line\nerror bad_line\nerror bad_line\n".as_slice();
+    assert!(rt; answers(alloc, false, lines, text, ConsoleEnd::Input));
+    let lines =
+        b"  describe  a.1  tcp://10.0.0.5:80  v2 \ndescribe a.1\ndescribe a.2 \ndescribe a.7 x\ndescribe b.1 x\n\
+        describe a x\ndescribe a.1 \tx\nfind x\nfind x!\nfind\nwait x\nwait x a\n"
+            .as_slice();
+    let text =
+        b"ok\ndescription  tcp://10.0.0.5:80  v2 \nundefined\nerror too_many_descriptions\nerror no_such_process\n\
+        error bad_serial\nerror bad_byte\na.1  tcp://10.0.0.5:80  v2 \nerror bad_byte\nerror bad_line\ntrue\nerror bad_serial\n"
+            .as_slice();
+    assert!(rt; finds(alloc, lines, text));
 }
 
 #[test]

@@ -5,3 +5,4 @@ mod Joining
 mod Closing
 mod Reseating
 mod Posting
+mod Welcoming

@@ -1,5 +1,5 @@
 -- The lines on which a server that stays tells what happens.
-use Rattle.std.specs.Prelude.{ℕ, Bool, true, false, Option, Some, None, List, ◌∷◌, ◌++◌, codes, Result, Ok, Err}
+use Rattle.std.specs.Prelude.{ℕ, Bool, true, false, nat_lt, ◌-◌, if◌then◌else◌, Option, Some, None, List, ◌∷◌, ◌++◌, codes, Result, Ok, Err}
 use Rattle.std.specs.Fmt.{decimal}
 use Rattle.term.specs.Spelling.{name_bytes, node_bytes}
 use Rattle.text_lines.specs.declared.faults.StreamFault.{StreamFault}
@@ -10,7 +10,7 @@ use Rattle.console.specs.declared.status.Load.{Load}
 use Rattle.server.specs.declared.staying.desk.Message.{Message}
 use Rattle.server.specs.declared.staying.desk.Message.TheVariants as message
 use Rattle.server.specs.declared.staying.notes.Note.{Note}
-use Rattle.server.specs.declared.staying.notes.Note.TheVariants.{Taken, Parted, NotAttached, TooMany, AcceptFailed, Spent}
+use Rattle.server.specs.declared.staying.notes.Note.TheVariants.{Taken, Parted, NotAttached, TooMany, AcceptFailed, FewDescriptors, Spent}
 use Rattle.server.specs.declared.staying.notes.Supply.{Supply}
 use Rattle.server.specs.declared.staying.notes.Supply.TheVariants.{Calls, Serials}
 use Rattle.server.specs.declared.staying.notes.Parting.{Parting}
@@ -57,6 +57,14 @@ abbrev pub note_if : Bool → Supply → ℕ → Option Note
 note_if true supply node = Some (Spent supply node)
 note_if false supply node = None
 
+-- for how many consoles the descriptors serve, of which so many may be open and so many are: two are needed otherwise
+abbrev pub served_by : ℕ → ℕ → ℕ
+served_by most in_use = most - in_use - 2
+
+-- what is told where they serve for so many, and so many are wanted
+abbrev pub note_if_short : ℕ → ℕ → Option Note
+note_if_short served wanted = if nat_lt served wanted then Some (FewDescriptors served wanted) else None
+
 -- what a server bears that serves so many consoles, in so much memory
 abbrev pub load_of : ℕ → ℕ → Load
 load_of consoles memory = record { consoles = consoles; memory = memory }
@@ -72,5 +80,6 @@ note_text (Parted console node parting) = told_of console (name_bytes node ++ co
 note_text (NotAttached console) = told_of console (codes "not_attached")
 note_text TooMany = codes "too_many_consoles"
 note_text AcceptFailed = codes "accept failed"
+note_text (FewDescriptors served wanted) = codes "descriptors for " ++ decimal served ++ codes " of " ++ decimal wanted ++ codes " consoles"
 note_text (Spent Calls node) = codes "calls of " ++ node_bytes node ++ codes ": 90 % spent"
 note_text (Spent Serials node) = codes "serials of " ++ node_bytes node ++ codes ": 90 % spent"

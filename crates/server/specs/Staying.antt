@@ -1,5 +1,5 @@
 -- What serving a cluster comes to that stays until a console asks for its end.
-use Rattle.std.specs.Prelude.{ℕ, Bool, ◌≡◌, ◌+◌, ◌⊎◌, is_ok, All, length, List, [], ◌∷◌, ◌++◌, codes, Option, Some, None, Result, Ok, Err}
+use Rattle.std.specs.Prelude.{ℕ, Bool, ◌≡◌, ◌+◌, ◌⊎◌, min, is_ok, All, length, List, [], ◌∷◌, ◌++◌, codes, Option, Some, None, Result, Ok, Err}
 use Rattle.std.specs.Global.{Global}
 use Rattle.std.specs.declared.thread.PromisedHandle.{PromisedHandle}
 use Rattle.std.specs.Io.KnownBytes.{Appends, Keeps}
@@ -48,6 +48,10 @@ pub record Reseats (c d : Crewed) : Type 0 where
 -- these are the nodes of the cluster: those that are joined with each other, and those that stand for themselves
 abbrev pub AreAll : List ℕ → Crewed → Type 0
 AreAll nodes c = (n : ℕ) → set_of nodes n ≡ set_of (nodes_in c) n
+
+-- how many workers a server has that has places for so many consoles: sixteen more, as far as they can be counted
+abbrev pub workers_for : ℕ → ℕ
+workers_for consoles = min (consoles + 16) 4294967295
 
 -- the threads of a server, by the nodes that each was started for
 abbrev pub Crew : Type 0

@@ -3,6 +3,7 @@ ghost use Rattle.std.specs.Prelude.{◌≡◌, None, IfOk, string_bytes};
 ghost use Rattle.node_threads.specs.Openings.{start_refused};
 ghost use Rattle.server.specs.Staying.{AreAll, Serve, StaysCluster, StaysRunning, TellsEnd};
 
+mod descriptors;
 mod desk;
 mod door;
 mod first_line;
@@ -20,7 +21,8 @@ use crate::ending::end_line;
 use crate::entry::Entry;
 use crate::faults::StayFault;
 use crate::serving::{YIELDS, set_of_all};
-use crate::staying::desk::{StayingCluster, stay};
+use crate::staying::descriptors::shortage;
+use crate::staying::desk::{StayingCluster, stay, tell_if};
 pub use crate::staying::lookout::{Lookout, Spent};
 use crate::staying::memory::resident;
 pub use crate::staying::options::StayOptions;
@@ -102,12 +104,14 @@ where
 }
 
 /// Runs a cluster of threads and serves consoles until one of them asks for the end by the line `shutdown`: those of `cluster` are
-/// joined with each other, and each of `lone` stands for itself. It serves as many connections at once as the options say, in as many
-/// threads, and tells others `error too_many_consoles`; with none at all nobody can ask for the end. Each console has a seat while it
-/// lasts, behind a first line that shows the cookie, if there is one. The nodes keep none of their steps. A connection that couldn't be
-/// taken ends nothing. What happens is told on `errors`, whose faults are passed over.
+/// joined with each other, and each of `lone` stands for itself. As many consoles are attached at once as the options say, and others are told
+/// `error too_many_consoles`; with none at all nobody can ask for the end. A connection counts for none of them before its first line has let
+/// it in: sixteen more are served at once, each in a thread of its own. Each console has a seat while it lasts, behind a first line that shows
+/// the cookie, if there is one. The nodes keep none of their steps. A connection that couldn't be taken ends nothing. What happens is told on
+/// `errors`, whose faults are passed over.
 ///
-/// Once all its threads are there the line `listening` is written. At the end connections are ended, calls that wait are answered `closed`,
+/// Once all its threads are there it is told for how many consoles the descriptors serve, if they are too few, and the line `listening` is
+/// written. At the end connections are ended, calls that wait are answered `closed`,
 /// and one line is written that tells what the cluster came to: `closed` with the number of events, and then the result is true; or
 /// `error` with the fault, and then it is false. `Start`: memory was refused, or a thread couldn't be had, and no line is written.
 /// `Write`: a part of the lines is. `Memory`: memory was refused for the last line, so the first one is written alone.
@@ -133,8 +137,12 @@ where
         return Err(StayFault::Start);
     };
     let nodes = set_of_all(cluster, lone);
+    let short = shortage(entry.fd(), options.consoles);
     match Staff::start(rt, alloc, entry, nodes.copy(), options, resident(rt)) {
-        Ok(staff) => serve(rt, alloc, running, &nodes, staff, listening, writer, errors),
+        Ok(staff) => {
+            tell_if(alloc, errors, short);
+            serve(rt, alloc, running, &nodes, staff, listening, writer, errors)
+        }
         Err(_) => {
             // A cluster that is let go must be ended: its threads end here.
             let _ = running.end(rt);

@@ -120,7 +120,7 @@ fn attend<R: Wait + Clock, E: Write>(
 }
 
 /// Tells what happened, if anything did.
-fn tell_if<E: Write>(alloc: Global, errors: &mut E, note: Option<Note>) {
+pub(crate) fn tell_if<E: Write>(alloc: Global, errors: &mut E, note: Option<Note>) {
     if let Some(note) = note {
         tell_note(alloc, errors, &note);
     }

@@ -52,7 +52,7 @@ fn rest<R: Clock>(rt: &R) {
     thread::sleep(rt, Duration::from_millis(100));
 }
 
-/// Tells a client that all workers are busy, and ends its connection, whether it hears this or not. What it has sent is read before: with
+/// Tells a client that there is no place for it, and ends its connection, whether it hears this or not. What it has sent is read before: with
 /// a connection that ends unread the system may take the answer back.
 fn turn_away(stream: Stream) {
     let _ = (&stream).write_all(b"error too_many_consoles\n");
@@ -117,7 +117,7 @@ impl<R: Wait + Clock + Drop + Copy> Door<R> {
         self.office.hall.lock(&self.office.rt).is_closing()
     }
 
-    /// Hands a connection to a worker, or turns it away where none is free.
+    /// Hands a connection to a worker, or turns it away where none is free, or no further console may be attached.
     fn let_in(&self, number: u64, stream: Stream) {
         if self.office.hall.lock(&self.office.rt).engage() {
             self.hand_over(number, stream);

@@ -1,5 +1,5 @@
 //! What the door, the workers and the desk of a server have in common.
-ghost use Rattle.std.specs.Prelude.{◌≡◌, ◌+◌, ◌-◌, ◌<◌, ◌^◌, length, true, false, not, None, Some, set, replicate, if◌then◌else◌, IfOk, MatchBool};
+ghost use Rattle.std.specs.Prelude.{◌≡◌, ◌+◌, ◌-◌, ◌<◌, ◌≤◌, ◌^◌, ◌⊎◌, true, false, not, None, Some, set, replicate, if◌then◌else◌, IfOk, MatchBool};
 ghost use Rattle.server.specs.Notes.{load_of};
 
 use crate::staying::stream::Stream;
@@ -18,12 +18,17 @@ pub(crate) struct Guest {
     pub(crate) stream: Connection,
 }
 
-/// How many workers are free, and the connections of those that aren't. It lies under a lock.
+/// How many workers are free, how many consoles are attached, and the connections of the workers that aren't free. It lies under a lock.
 #[derive(Drop)]
 pub(crate) struct Hall {
     /// The server ends.
     closing: bool,
+    /// How many workers are free.
     free: u32,
+    /// How many consoles may be attached at once.
+    places: u32,
+    /// How many are.
+    attached: u32,
     /// The connection that each worker serves.
     handles: Vec<Option<Connection>>,
 }
@@ -49,24 +54,32 @@ fn put(handles: &mut Vec<Option<Connection>>, worker: usize, handle: Option<Conn
 }
 
 impl Hall {
-    /// That of so many workers, which are free.
-    pub(crate) fn new(alloc: Global, workers: u32) -> Result<Self, AllocError>
-        ensures { IfOk result (λ hall. (hall.free ≡ workers) × (hall.closing ≡ false) × (hall.handles.items ≡ replicate workers None)) }
+    /// That of so many workers, which are free, and so many places for consoles that are attached.
+    pub(crate) fn new(alloc: Global, workers: u32, places: u32) -> Result<Self, AllocError>
+        ensures workers { IfOk result (λ hall. (hall.free ≡ workers) × (hall.closing ≡ false) × (hall.handles.items ≡ replicate workers None)) }
+        ensures places { IfOk result (λ hall. (hall.places ≡ places) × (hall.attached ≡ 0)) }
     {
         let handles = no_handles(alloc, workers)?;
         Ok(Hall {
             closing: false,
             free: workers,
+            places,
+            attached: 0,
             handles,
         })
     }
 
-    /// A worker is to take a connection, if one is free.
+    /// A worker is to take a connection, if one is free, and as long as one more console may be attached.
     pub(crate) fn engage(&mut self) -> bool
         ensures closing { self.new.closing ≡ self.old.closing }
-        ensures free { MatchBool result (self.old.free ≡ self.new.free + 1) ((self.old.free ≡ 0) × (self.new.free ≡ 0)) }
+        ensures free { MatchBool result ((self.old.free ≡ self.new.free + 1) × (self.old.attached < self.old.places))
+            ((self.new.free ≡ self.old.free) × ((self.old.free ≡ 0) ⊎ (self.old.places ≤ self.old.attached))) }
+        ensures attached { (self.new.places ≡ self.old.places) × (self.new.attached ≡ self.old.attached) }
         ensures handles { self.new.handles.items ≡ self.old.handles.items }
     {
+        if self.is_full() {
+            return false;
+        }
         match self.free.checked_sub(1) {
             Some(free) => {
                 self.free = free;
@@ -76,19 +89,45 @@ impl Hall {
         }
     }
 
-    /// How many workers aren't free: so many consoles are served.
-    fn served(&self) -> u64
-        ensures { result ≡ length self.now.handles.items - self.now.free }
+    /// Whether as many consoles are attached as may be.
+    fn is_full(&self) -> bool
+        ensures { MatchBool result (self.now.places ≤ self.now.attached) (self.now.attached < self.now.places) }
     {
-        (self.handles.len() as u64).saturating_sub(u64::from(self.free))
+        self.attached >= self.places
+    }
+
+    /// A console that a worker has greeted is attached, if one more may be.
+    pub(crate) fn attach(&mut self) -> bool
+        ensures closing { self.new.closing ≡ self.old.closing }
+        ensures free { self.new.free ≡ self.old.free }
+        ensures places { self.new.places ≡ self.old.places }
+        ensures attached { MatchBool result ((self.old.attached < self.old.places) × (self.new.attached ≡ self.old.attached + 1))
+            ((self.old.places ≤ self.old.attached) × (self.new.attached ≡ self.old.attached)) }
+        ensures handles { self.new.handles.items ≡ self.old.handles.items }
+    {
+        if self.is_full() {
+            return false;
+        }
+        self.attached += 1;
+        true
+    }
+
+    /// A console that was attached has ended.
+    pub(crate) fn detach(&mut self)
+        ensures closing { self.new.closing ≡ self.old.closing }
+        ensures free { self.new.free ≡ self.old.free }
+        ensures attached { (self.new.places ≡ self.old.places) × (self.new.attached ≡ self.old.attached - 1) }
+        ensures handles { self.new.handles.items ≡ self.old.handles.items }
+    {
+        self.attached = self.attached.saturating_sub(1);
     }
 
     /// What the server bears, whose process has so much memory.
     pub(crate) fn load(&self, memory: u64) -> Load
-        ensures { result ≡ load_of (length self.now.handles.items - self.now.free) memory }
+        ensures { result ≡ load_of self.now.attached memory }
     {
         Load {
-            consoles: self.served(),
+            consoles: u64::from(self.attached),
             memory,
         }
     }
@@ -97,6 +136,7 @@ impl Hall {
     pub(crate) fn release(&mut self)
         ensures closing { self.new.closing ≡ self.old.closing }
         ensures free { self.old.free + 1 < 2 ^ 32 → self.new.free ≡ self.old.free + 1 }
+        ensures attached { (self.new.places ≡ self.old.places) × (self.new.attached ≡ self.old.attached) }
         ensures handles { self.new.handles.items ≡ self.old.handles.items }
     {
         self.free = self.free.saturating_add(1);
@@ -107,6 +147,7 @@ impl Hall {
         ensures closing { self.new.closing ≡ self.old.closing }
         ensures free { self.new.free ≡ self.old.free }
         ensures entered { result ≡ not self.old.closing }
+        ensures attached { (self.new.places ≡ self.old.places) × (self.new.attached ≡ self.old.attached) }
         ensures handles { self.new.handles.items ≡ if result then set self.old.handles.items worker (Some handle) else self.old.handles.items }
     {
         if self.closing {
@@ -120,6 +161,7 @@ impl Hall {
     pub(crate) fn leave(&mut self, worker: usize)
         ensures closing { self.new.closing ≡ self.old.closing }
         ensures free { self.old.free + 1 < 2 ^ 32 → self.new.free ≡ self.old.free + 1 }
+        ensures attached { (self.new.places ≡ self.old.places) × (self.new.attached ≡ self.old.attached) }
         ensures handles { self.new.handles.items ≡ set self.old.handles.items worker None }
     {
         put(&mut self.handles, worker, None);
@@ -137,6 +179,7 @@ impl Hall {
     pub(crate) fn close(&mut self)
         ensures closing { self.new.closing ≡ true }
         ensures free { self.new.free ≡ self.old.free }
+        ensures attached { (self.new.places ≡ self.old.places) × (self.new.attached ≡ self.old.attached) }
         ensures handles { self.new.handles.items ≡ self.old.handles.items }
     {
         self.closing = true;

@@ -51,10 +51,12 @@ pub(crate) enum Note {
     Parted(u64, NodeName, Parting),
     /// A console was attached to no node: its number.
     NotAttached(u64),
-    /// A connection came while no worker was free.
+    /// There was no place for a connection that came, or for the console that its first line was to attach.
     TooMany,
     /// A connection couldn't be taken.
     AcceptFailed,
+    /// The descriptors that are left serve for so many consoles, and so many were to be served.
+    FewDescriptors(u64, u32),
     /// Nine tenths of these numbers of a node are given.
     Spent(Supply, Node),
 }
@@ -132,6 +134,9 @@ fn push_note(text: &mut String, note: &Note) -> Result<(), AllocError>
         Note::NotAttached(console) => write!(text, "console {console} not_attached"),
         Note::TooMany => text.push_str("too_many_consoles"),
         Note::AcceptFailed => text.push_str("accept failed"),
+        Note::FewDescriptors(served, wanted) => {
+            write!(text, "descriptors for {served} of {wanted} consoles")
+        }
         Note::Spent(Supply::Calls, node) => write!(text, "calls of {node}: 90 % spent"),
         Note::Spent(Supply::Serials, node) => write!(text, "serials of {node}: 90 % spent"),
     }

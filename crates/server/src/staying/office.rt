@@ -5,6 +5,7 @@ use crate::staying::notes::Note;
 use crate::staying::options::StayOptions;
 use console::{House, Load};
 use crossbeam_channel::{Receiver, Sender, bounded};
+use descriptions::SharedDescriptions;
 use lock_lines::LockLines;
 use node_threads::{Seat, SeatFault};
 use std::alloc::{AllocError, Global};
@@ -25,6 +26,8 @@ pub(crate) struct Office<R: Wait + Drop + Copy> {
     pub(crate) memory: Arc<AtomicU64, Global>,
     /// The lines in which lock calls wait, over all nodes.
     pub(crate) lines: Arc<LockLines, Global>,
+    /// What is said of processes, over all nodes.
+    pub(crate) descriptions: Arc<SharedDescriptions, Global>,
     /// Connections that wait for the worker that was engaged for them.
     pub(crate) guests: Receiver<Guest>,
     pub(crate) desk: Sender<Message>,
@@ -41,6 +44,7 @@ impl<R: Wait + Drop + Copy> Office<R> {
         let hall = Arc::try_clone(&self.hall)?;
         let memory = Arc::try_clone(&self.memory)?;
         let lines = Arc::try_clone(&self.lines)?;
+        let descriptions = Arc::try_clone(&self.descriptions)?;
         let guests = self.guests.clone()?;
         let desk = self.desk.clone()?;
         Ok(Office {
@@ -51,6 +55,7 @@ impl<R: Wait + Drop + Copy> Office<R> {
             hall,
             memory,
             lines,
+            descriptions,
             guests,
             desk,
         })
@@ -59,6 +64,16 @@ impl<R: Wait + Drop + Copy> Office<R> {
     /// Says this to the desk, which listens for as long as there are threads. It waits while many messages are unread.
     pub(crate) fn say(&self, message: Message) {
         let _ = self.desk.send(&self.rt, message);
+    }
+
+    /// Whether a console that was greeted is attached: not where as many are as may be.
+    pub(crate) fn attach(&self) -> bool {
+        self.hall.lock(&self.rt).attach()
+    }
+
+    /// A console that was attached has ended.
+    pub(crate) fn detach(&self) {
+        self.hall.lock(&self.rt).detach();
     }
 
     /// Tells the desk what happened.
@@ -107,5 +122,9 @@ impl<R: Wait + Drop + Copy> House<R> for Office<R> {
 
     fn lines(&self) -> &LockLines {
         &self.lines
+    }
+
+    fn descriptions(&self) -> &SharedDescriptions {
+        &self.descriptions
     }
 }

@@ -8,7 +8,7 @@ use std::time::Duration;
 /// What a server that stays is told.
 #[derive(Drop)]
 pub struct StayOptions {
-    /// How many consoles are served at once.
+    /// How many consoles may be attached at once.
     pub consoles: u32,
     /// After how many seconds without a line a console ends, one at least; never without one.
     pub idle: Option<u32>,

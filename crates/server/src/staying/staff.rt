@@ -1,7 +1,7 @@
 //! The threads of a server that stays.
 ghost use denote.Param.Send.{IsSend, IsSync};
 ghost use Rattle.std.specs.Prelude.{◌≡◌, ◌+◌, ℕ, List, length, IfOk, OnOk};
-ghost use Rattle.server.specs.Staying.{Serve, Starts};
+ghost use Rattle.server.specs.Staying.{Serve, Starts, workers_for};
 
 use crate::entry::Entry;
 use crate::staying::desk::{Message, dismiss};
@@ -11,6 +11,7 @@ use crate::staying::office::Office;
 use crate::staying::options::StayOptions;
 use crate::staying::worker::Worker;
 use crossbeam_channel::{Receiver, RecvTimeoutError, Sender, bounded};
+use descriptions::SharedDescriptions;
 use lock_lines::LockLines;
 use std::alloc::{AllocError, Global};
 use std::io::Write;
@@ -24,6 +25,10 @@ use term::NodeSet;
 
 /// How many messages the desk leaves unread before those that say more wait.
 const MESSAGES: usize = 256;
+
+/// How many connections are served beside those of the consoles that may be attached: so many at least may be silent, or show no cookie,
+/// before they keep anybody out.
+const ENTRANCES: u32 = 16;
 
 /// How long a console may go on without a word to the desk after the cluster has ended, in milliseconds.
 const GRACE: u64 = 1_000;
@@ -136,8 +141,15 @@ where
     post(&rt, door, threads)
 }
 
+/// How many workers there are where so many consoles may be attached at once.
+fn workers_for(consoles: u32) -> u32
+    ensures { result ≡ workers_for consoles }
+{
+    consoles.saturating_add(ENTRANCES)
+}
+
 impl Staff {
-    /// Starts the workers of so many consoles, each of which serves these nodes, and the door of this entry. So much memory the process has
+    /// Starts the workers for so many consoles, each of which serves these nodes, and the door of this entry. So much memory the process has
     /// then. Where a thread can't be had, those that were started have ended.
     pub(crate) fn start<R>(
         rt: &R,
@@ -150,13 +162,14 @@ impl Staff {
     where
         R: Threads + Wait + Clock + Drop + Copy + Send + Sync + 'static,
         ensures served { IfOk result (λ staff. Serve nodes staff.threads.items) }
-        ensures many { IfOk result (λ staff. length staff.threads.items ≡ options.consoles + 1) }
+        ensures many { IfOk result (λ staff. length staff.threads.items ≡ workers_for options.consoles + 1) }
     {
-        let workers = options.consoles;
+        let places = options.consoles;
+        let workers = workers_for(places);
         // No message takes memory, so none is lost. No more connections wait than workers were engaged.
         let (desk, messages) = bounded(alloc, MESSAGES)?;
         let (to_workers, guests) = bounded(alloc, workers as usize)?;
-        let hall = Arc::new(alloc, Mutex::new(Hall::new(alloc, workers)?))?;
+        let hall = Arc::new(alloc, Mutex::new(Hall::new(alloc, workers, places)?))?;
         let memory = Arc::new(alloc, AtomicU64::new(memory))?;
         let office = Office {
             rt: *rt,
@@ -166,6 +179,7 @@ impl Staff {
             hall: Arc::try_clone(&hall)?,
             memory: Arc::try_clone(&memory)?,
             lines: Arc::new(alloc, LockLines::new(alloc))?,
+            descriptions: Arc::new(alloc, SharedDescriptions::new(alloc))?,
             guests,
             desk,
         };

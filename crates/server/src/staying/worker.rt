@@ -1,6 +1,7 @@
 //! The thread that serves one connection after another.
 ghost use Rattle.std.specs.Io.Buffered.{reader_remaining};
-ghost use Rattle.server.specs.Visits.{IsHosted, Visits};
+ghost use Rattle.std.specs.Prelude.{MatchOption};
+ghost use Rattle.server.specs.Visits.{IsHeard, IsHosted, IsLetIn, IsPlaced, IsSentAway, IsTurnedAway, IsUnheard, IsWelcomed, Visits};
 
 use crate::staying::desk::{Message, farewell};
 use crate::staying::first_line::FirstLine;
@@ -9,7 +10,7 @@ use crate::staying::notes::{Note, Parting};
 use crate::staying::office::Office;
 use crate::staying::staff::Duty;
 use crate::staying::stream::Stream;
-use console::{greet, refuse_seat, serve_staying};
+use console::{GreetFault, answer_first, read_first, refuse_seat, serve_staying};
 use std::alloc::Global;
 use std::io::{BufReader, BufWriter, Read, Write};
 use std::sync::atomic::{AtomicBool, Ordering};
@@ -92,8 +93,84 @@ impl<R: Wait + Clock + Drop + Copy> Worker<R> {
         }
     }
 
-    /// Greets a console, which must show the cookie if there is one, and serves it at the node that it names. Once it is attached it may
-    /// say nothing on its connection for as long as the server is told, or for as long as it likes.
+    /// What a first line is answered by which this was found: whom it attaches is given a place, if there is one left, and had none until then.
+    fn place(&self, found: Result<NodeName, GreetFault>) -> Result<NodeName, GreetFault>
+        ensures { IsPlaced found result }
+    {
+        if found.is_ok() && !self.office.attach() {
+            self.office.note(Note::TooMany);
+            return Err(GreetFault::TooManyConsoles);
+        }
+        found
+    }
+
+    /// Answers a first line in which this was found: the node that its console is attached to, if it is to one. It has a place then.
+    fn answer<O: Write>(
+        &self,
+        writer: &mut O,
+        found: Result<NodeName, GreetFault>,
+    ) -> Option<NodeName>
+        ensures { MatchOption result (IsSentAway found (O.contents writer.old) (O.contents writer.new))
+            (IsWelcomed found (O.contents writer.old) (O.contents writer.new)) }
+    {
+        let answer = self.place(found);
+        match answer_first(self.office.alloc, writer, &answer) {
+            Ok(()) => answer.ok(),
+            Err(_) => {
+                if answer.is_ok() {
+                    self.office.detach();
+                }
+                None
+            }
+        }
+    }
+
+    /// Hears the first line of a console, which must show the cookie if there is one: what is found in it. It isn't answered yet.
+    fn hear<I: Read, O: Write>(
+        &self,
+        reader: &mut BufReader<I, Global>,
+        writer: &mut O,
+    ) -> Option<Result<NodeName, GreetFault>>
+        ensures { MatchOption result
+            (IsUnheard (reader_remaining I.remaining reader.old) (reader_remaining I.remaining reader.new)
+            (O.contents writer.old) (O.contents writer.new))
+            (IsHeard self.now.office.options.value.cookie self.now.office.nodes (reader_remaining I.remaining reader.old)
+            (reader_remaining I.remaining reader.new) (O.contents writer.old) (O.contents writer.new)) }
+    {
+        let Office {
+            rt,
+            alloc,
+            nodes,
+            options,
+            ..
+        } = &self.office;
+        match read_first(rt, *alloc, reader, writer, nodes, options.cookie.as_ref()) {
+            Ok(Some(found)) => Some(found),
+            Ok(None) => None,
+            Err(_) => None,
+        }
+    }
+
+    /// Greets a console: the node that it is attached to, if it is to one. It has a place then.
+    fn greet<I: Read, O: Write>(
+        &self,
+        reader: &mut BufReader<I, Global>,
+        writer: &mut O,
+    ) -> Option<NodeName>
+        ensures { MatchOption result
+            (IsTurnedAway self.now.office.options.value.cookie self.now.office.nodes (reader_remaining I.remaining reader.old)
+            (reader_remaining I.remaining reader.new) (O.contents writer.old) (O.contents writer.new))
+            (IsLetIn self.now.office.options.value.cookie self.now.office.nodes (reader_remaining I.remaining reader.old)
+            (reader_remaining I.remaining reader.new) (O.contents writer.old) (O.contents writer.new)) }
+    {
+        match self.hear(reader, writer) {
+            Some(found) => self.answer(writer, found),
+            None => None,
+        }
+    }
+
+    /// Greets a console, and serves it at the node that it names, if it is let in. Once it is attached it may say nothing on its
+    /// connection for as long as the server is told, or for as long as it likes.
     fn talk<I: Read, O: Write>(
         &self,
         number: u64,
@@ -105,22 +182,15 @@ impl<R: Wait + Clock + Drop + Copy> Worker<R> {
         ensures { Visits self.now.office.options.value.cookie self.now.office.nodes (reader_remaining I.remaining reader.old)
             (reader_remaining I.remaining reader.new) (O.contents writer.old) (O.contents writer.new) }
     {
-        let Office {
-            rt,
-            alloc,
-            nodes,
-            options,
-            ..
-        } = &self.office;
-        match greet(rt, *alloc, reader, writer, nodes, options.cookie.as_ref()) {
-            Ok(Some(node)) => {
+        match self.greet(reader, writer) {
+            Some(node) => {
                 is_attached.store(true, Ordering::SeqCst);
-                let _ = stream.set_read_timeout(options.silence());
+                let _ = stream.set_read_timeout(self.office.options.silence());
                 let parting = self.serve(reader, writer, stream, &node);
+                self.office.detach();
                 self.part(number, node, parting);
             }
-            Ok(None) => self.office.note(Note::NotAttached(number)),
-            Err(_) => self.office.note(Note::NotAttached(number)),
+            None => self.office.note(Note::NotAttached(number)),
         }
     }
 

@@ -6,7 +6,7 @@ use Rattle.console.specs.Commands.{LineSays}
 use Rattle.console.specs.Links.{linked_in, own_text}
 use Rattle.console.specs.Outcomes.{outcome_text}
 use Rattle.console.specs.declared.orders.Command.{Command}
-use Rattle.console.specs.declared.orders.Command.TheVariants.{Ask, NamesFrom}
+use Rattle.console.specs.declared.orders.Command.TheVariants.{Ask, NamesFrom, Inquire}
 use Rattle.console.proofs.Leaving.{MayAnswer-spawned}
 use Rattle.console.proofs.answering.reply_to.Goals as goal
 
@@ -47,3 +47,14 @@ returns-in_err-text-in-Ok-NamesFrom g c = λ bytes k.
     (c.in_ok-order.ensures bytes k)) in
     let chosen = c.in_err-text-in-Ok-NamesFrom.ensures in
     MatchResult-err _ _ r p.0 p.1 (inr (chosen.0, None, (Ok (NamesFrom c.in-Ok-NamesFrom.prefix), says, (chosen.1, refl, refl))))
+
+pub returns-in_err-text-in-Ok-Inquire : goal.returns-in_err-text-in-Ok-Inquire
+returns-in_err-text-in-Ok-Inquire g c = λ bytes k.
+    let r = c.from_residual-in_err-text-in-Ok-Inquire.result in
+    let p = err_from_is_err_and r c.from_residual-in_err-text-in-Ok-Inquire.ensures.1 in
+    let own = own_text (linked_in c.args.links.now) in
+    let says = subst (λ (said : Command). LineSays c.args.stays own bytes (Ok said)) c.in-Ok-Inquire.field-0-is
+    (subst (λ (said : Result Command LineFault). LineSays c.args.stays own bytes said) c.in-Ok-Inquire.is
+    (c.in_ok-order.ensures bytes k)) in
+    let heeded = c.in_err-text-in-Ok-Inquire.ensures in
+    MatchResult-err _ _ r p.0 p.1 (inr (heeded.0, None, (Ok (Inquire c.in-Ok-Inquire.inquiry), says, (heeded.1, refl, refl))))

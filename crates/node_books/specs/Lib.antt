@@ -1,0 +1,4 @@
+pub mod Onward
+pub mod Moments
+pub mod Books
+pub mod Faults
