@@ -4,7 +4,7 @@ use Rattle.command_lines.specs.declared.faults.LineFault.{LineFault}
 use Rattle.console.specs.Commands.{AsksFor, AsksForSome, WordsSay, is_lock_word, meant, names_with}
 use Rattle.console.specs.declared.orders.Order.{Order}
 use Rattle.console.specs.declared.orders.Command.{Command}
-use Rattle.console.specs.declared.orders.Command.TheVariants.{Ask, SpawnLink, Quit, Shutdown, Status, Help, NamesFrom}
+use Rattle.console.specs.declared.orders.Command.TheVariants.{Ask, SpawnLink, Quit, Shutdown, Status, Fence, Help, NamesFrom}
 
 module _ (a b c d e f g h : List ℕ) (words : List (List ℕ)) where
   -- no line has seven words
@@ -27,12 +27,13 @@ module _ (a b c d e f g h : List ℕ) (words : List (List ℕ)) where
   say_more stays (Ok Shutdown) says = (says.0, cc)
   say_more stays (Ok SpawnLink) says = cc
   say_more stays (Ok Status) says = (says.0, cc)
+  say_more stays (Ok Fence) says = (says.0, cc)
   say_more stays (Ok Help) says = (says.0, cc)
   say_more stays (Ok (NamesFrom prefix)) says = absurd (none_chosen stays (Ok (NamesFrom prefix)) says)
   say_more stays (Ok (Ask order)) says =
-      ((λ is. cc, λ _ is. cc, λ is. cc, λ _ is. cc, λ _ is. cc, λ _ _ is. cc), ask_more (is_lock_word a) (Ok order) says.1)
+      ((λ is. cc, λ _ is. cc, λ is. cc, λ _ is. cc, λ _ is. cc, λ _ is. cc, λ _ _ is. cc), ask_more (is_lock_word a) (Ok order) says.1)
   say_more stays (Err fault) says = elim says [
-    | inl asks ↦ inl ((λ is. cc, λ _ is. cc, λ is. cc, λ _ is. cc, λ _ is. cc, λ _ _ is. cc), ask_more (is_lock_word a) (Err fault) asks.1)
+    | inl asks ↦ inl ((λ is. cc, λ _ is. cc, λ is. cc, λ _ is. cc, λ _ is. cc, λ _ is. cc, λ _ _ is. cc), ask_more (is_lock_word a) (Err fault) asks.1)
     | inr asks ↦ absurd (none_chosen stays (Err fault) asks)
   ]
 

@@ -13,7 +13,7 @@ use Rattle.text_lines.specs.Words.{words}
 use Rattle.console.specs.declared.orders.Order.{Order}
 use Rattle.console.specs.declared.orders.Order.TheVariants.{Call, Whereis, Exit, Leave}
 use Rattle.console.specs.declared.orders.Command.{Command}
-use Rattle.console.specs.declared.orders.Command.TheVariants.{Ask, SpawnLink, Quit, Shutdown, Status, Help, NamesFrom}
+use Rattle.console.specs.declared.orders.Command.TheVariants.{Ask, SpawnLink, Quit, Shutdown, Status, Fence, Help, NamesFrom}
 
 -- what the node is asked, as the protocol has it
 abbrev pub event_in : Order → Event
@@ -112,6 +112,10 @@ shutdown = codes "shutdown" ∷ []
 abbrev pub status : List (List ℕ)
 status = codes "status" ∷ []
 
+-- the word that asks by which step the console was granted a lock last
+abbrev pub fence : List (List ℕ)
+fence = codes "fence" ∷ []
+
 -- the word that asks which lines there are
 abbrev pub help : List (List ℕ)
 help = codes "help" ∷ []
@@ -130,8 +134,8 @@ SaysElse stays these ws = stays ≡ true → ws ≢ these
 
 -- they do none of what only a console does: it asks its node
 abbrev pub IsAsking : Bool → List (List ℕ) → Type 0
-IsAsking stays ws = (ws ≢ quit) × SaysElse stays shutdown ws × (ws ≢ spawn_link) × SaysElse stays status ws × SaysElse stays help ws
-    × ((text : List ℕ) → SaysElse stays (names_with text) ws)
+IsAsking stays ws = (ws ≢ quit) × SaysElse stays shutdown ws × (ws ≢ spawn_link) × SaysElse stays status ws × SaysElse stays fence ws
+    × SaysElse stays help ws × ((text : List ℕ) → SaysElse stays (names_with text) ws)
 
 -- a text in the place of such a beginning says this: it is refused as a name is
 abbrev pub BeginsNames : List ℕ → Result Command LineFault → Type 0
@@ -149,6 +153,7 @@ WordsSay stays ws (Ok Quit) = ws ≡ quit
 WordsSay stays ws (Ok Shutdown) = SaysAtStaying stays shutdown ws
 WordsSay stays ws (Ok SpawnLink) = ws ≡ spawn_link
 WordsSay stays ws (Ok Status) = SaysAtStaying stays status ws
+WordsSay stays ws (Ok Fence) = SaysAtStaying stays fence ws
 WordsSay stays ws (Ok Help) = SaysAtStaying stays help ws
 WordsSay stays ws (Ok (NamesFrom prefix)) = AsksForSome stays ws (Ok (NamesFrom prefix))
 WordsSay stays ws (Ok (Ask o)) = IsAsking stays ws × WordsAskNode ws (Ok o)

@@ -12,3 +12,4 @@ pub mod Help
 pub mod Consoles
 pub mod Seats
 pub mod Statuses
+pub mod Fences

@@ -8,6 +8,7 @@ use Rattle.node_seats.specs.declared.Effect.TheVariants.{Made, Left}
 use Rattle.node_seats.specs.declared.fault.SeatFault.{SeatFault}
 use Rattle.registry_model.specs.Process.{Process}
 use Rattle.node_seats.specs.Callers.{IsEnd}
+use Rattle.node_seats.specs.Fences.{fence_of}
 use Rattle.node_seats.specs.Seats.{Sitting, Answered, Unanswered, Done, LooksUp, owner_reply}
 use Rattle.console.specs.declared.orders.Order.{Order}
 use Rattle.console.specs.declared.orders.Order.TheVariants.{Call, Whereis, Exit, Leave}
@@ -30,9 +31,9 @@ SeatGives s Leave (Err f) t = Unanswered f event.Leave s t
 abbrev pub SeatAnswers : Sitting → Order → Bool → Result Reply SeatFault → Sitting → Type 0
 SeatAnswers s order linked r t = SeatGives s order r t
 
--- how a seat's node stands is told of that node; or no reply comes any more
+-- how a seat's node stands is told of that node, with the number of the step that granted the seat a lock last; or no reply comes any more
 abbrev pub SeatStands : Sitting → Result Status SeatFault → Type 0
-SeatStands s (Ok status) = status.node.node ≡ s.node
+SeatStands s (Ok status) = (status.node.node ≡ s.node) × (status.fence ≡ fence_of s.nodes s.node s.granted)
 SeatStands s (Err f) = IsEnd f
 
 -- this is the transcript of the seat

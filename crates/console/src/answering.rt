@@ -12,6 +12,7 @@ use crate::chosen::chosen_line;
 use crate::commands::read_command;
 use crate::counting::next_line;
 use crate::ends::ConsoleEnd;
+use crate::fence::fence_line;
 use crate::help::help_line;
 use crate::links::Links;
 use crate::orders::{Command, Order};
@@ -131,6 +132,10 @@ fn reply_to<H, A: Attendant<H>>(
             let status = attendant.status(rt);
             Ok((status_line(alloc, status)?, None))
         }
+        Ok(Command::Fence) => {
+            let status = attendant.status(rt);
+            Ok((fence_line(alloc, status)?, None))
+        }
         Ok(Command::Help) => Ok((String::from_str(alloc, help_line())?, None)),
         Ok(Command::NamesFrom(prefix)) => {
             let text = chosen_names(rt, alloc, attendant, &prefix)?;
@@ -237,8 +242,8 @@ fn exit_all<H, A: Attendant<H>>(rt: &H, attendant: &mut A, links: &Links)
 }
 
 /// Reads lines until `quit` or the end of the input, and answers each with one line: how the console ended. In a console of a
-/// server that stays `shutdown` is answered `ok` and ends it, too, `status` tells how the node and the server stand, `help` which lines
-/// there are, and `names` with the beginning of names those that have it. It answers `most` lines at most.
+/// server that stays `shutdown` is answered `ok` and ends it, too, `status` tells how the node and the server stand, `fence` by which step
+/// a lock was granted last, `help` which lines there are, and `names` with the beginning of names those that have it. It answers `most` lines at most.
 ///
 /// A line that asks something is asked of the attendant, and answered with the text of the reply or the word of the refusal;
 /// any other is refused, an empty one too. What was answered is handed on before the console waits: for a further line where none is at

@@ -10,6 +10,7 @@ mod cookie;
 mod counting;
 mod ends;
 mod faults;
+mod fence;
 mod greeting;
 mod help;
 mod links;

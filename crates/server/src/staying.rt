@@ -9,6 +9,7 @@ mod first_line;
 mod hall;
 mod lookout;
 mod memory;
+mod moment;
 mod notes;
 mod office;
 mod options;
@@ -23,6 +24,7 @@ use crate::serving::{YIELDS, set_of_all};
 use crate::staying::desk::{StayingCluster, stay};
 pub use crate::staying::lookout::{Lookout, Spent};
 use crate::staying::memory::resident;
+use crate::staying::moment::microseconds;
 pub use crate::staying::options::StayOptions;
 use crate::staying::staff::Staff;
 use node_threads::OpenGate;
@@ -104,7 +106,8 @@ where
 /// Runs a cluster of threads and serves consoles until one of them asks for the end by the line `shutdown`: those of `cluster` are
 /// joined with each other, and each of `lone` stands for itself. It serves as many connections at once as the options say, in as many
 /// threads, and tells others `error too_many_consoles`; with none at all nobody can ask for the end. Each console has a seat while it
-/// lasts, behind a first line that shows the cookie, if there is one. The nodes keep none of their steps. A connection that couldn't be
+/// lasts, behind a first line that shows the cookie, if there is one. The nodes keep none of their steps, whose stamps begin with the
+/// microseconds of the system's clock at the start. A connection that couldn't be
 /// taken ends nothing. What happens is told on `errors`, whose faults are passed over.
 ///
 /// Once all its threads are there the line `listening` is written. At the end connections are ended, calls that wait are answered `closed`,
@@ -129,7 +132,10 @@ where
     requires { start_refused cluster.now lone.now ≡ None }
     ensures { StaysCluster cluster.now lone.now listening.now (W.contents writer.old) (W.contents writer.new) result }
 {
-    let Ok(running) = StayingCluster::start(rt, alloc, cluster, lone, OpenGate, YIELDS) else {
+    let begin = microseconds(rt);
+    let Ok(running) =
+        StayingCluster::start(rt, alloc, cluster, lone, OpenGate, YIELDS, begin)
+    else {
         return Err(StayFault::Start);
     };
     let nodes = set_of_all(cluster, lone);
