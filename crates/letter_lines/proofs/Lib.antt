@@ -1,0 +1,9 @@
+mod Cuts
+mod Dots
+mod Exits
+mod ExactProcesses
+mod ExactKinds
+mod Readings
+mod Written
+mod Printed
+mod Again

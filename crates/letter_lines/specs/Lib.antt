@@ -1,0 +1,7 @@
+pub mod Processes
+pub mod Grammar
+pub mod Lines
+pub mod Parts
+pub mod Gathered
+pub mod Laws
+pub mod Refusals

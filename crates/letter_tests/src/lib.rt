@@ -1,0 +1,5 @@
+//! Tests of the texts of letters.
+#![tactic(auto)]
+
+#[cfg(test)]
+mod letters;
