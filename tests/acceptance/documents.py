@@ -6,14 +6,14 @@ import subprocess
 import sys
 from functools import partial
 
-from . import arguments, clients, contracts, departures, pressed, scripts, talks, waits, wrapper
+from . import arguments, clients, contracts, departures, ports, pressed, scripts, talks, waits, wrapper
 from .outcomes import Failure, Test
 from .sources import Code, read
 
 CONTRACTS = "docs/CONTRACTS.md"
 ARCHITECTURE = "docs/ARCHITECTURE.md"
 # The tests that documents may name, as PART/NAME.
-NAMED = [arguments, clients, departures, pressed, scripts, talks, waits, wrapper]
+NAMED = [arguments, clients, departures, ports, pressed, scripts, talks, waits, wrapper]
 # Whatever these have in backticks stands in some file of the crates, tests or tools.
 NAMING = ["ARCHITECTURE", "ASSURANCE", "DECISIONS", "GLOSSARY", "PROOF", "THREADS"]
 # So many names of docs/CONTRACTS.md are judged at least. It is raised with its rows, so that what judges them can't come to pass them over.

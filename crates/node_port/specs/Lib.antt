@@ -1,0 +1,6 @@
+pub use Rattle.wire_end.specs.Dealings
+pub mod Numbers
+pub mod Shown
+pub mod Edits
+pub mod Soundness
+pub mod Ran

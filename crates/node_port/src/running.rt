@@ -1,0 +1,108 @@
+//! A node from its first line to its end.
+use crate::commands::{read_command, says_founds};
+use crate::port::{Port, Standing};
+use node_loop::TurnFault;
+use std::alloc::Global;
+use std::io::{BufReader, Read, Write};
+use term::{Node, NodeSet};
+use text_lines::{Line, MOST_LINES, StreamFault, hand_on, read_line, write_text};
+
+/// The next line of a reader, or none at its end. What was written is handed on before the reader waits.
+fn next_line<R: Read, W: Write>(
+    room: Vec<u8>,
+    reader: &mut BufReader<R, Global>,
+    writer: &mut W,
+) -> Result<Option<Line>, StreamFault> {
+    let mut left = MOST_LINES;
+    read_line(room, reader, writer, &mut left)
+}
+
+/// Does what a line says, or refuses it, and writes what that prints: how the node stands behind it.
+fn play_line<W: Write>(
+    alloc: Global,
+    port: &mut Port,
+    line: &Line,
+    writer: &mut W,
+) -> Result<Standing, StreamFault> {
+    let own = port.last_process();
+    let outcome = match read_command(alloc, line, own.as_ref()) {
+        Ok(command) => port.play(command),
+        Err(refused) => {
+            port.refuse(&refused)?;
+            Ok(Standing::Runs)
+        }
+    };
+    port.write(writer)?;
+    match outcome {
+        Ok(standing) => Ok(standing),
+        Err(TurnFault::Memory) => Err(StreamFault::Memory),
+        Err(TurnFault::StampsSpent) => {
+            write_text(writer, b"error stamps_spent\n")?;
+            Ok(Standing::Broken)
+        }
+    }
+}
+
+/// Does what lines say until they end or the node does: whether no line was out of its place.
+fn play_lines<R: Read, W: Write>(
+    alloc: Global,
+    port: &mut Port,
+    reader: &mut BufReader<R, Global>,
+    writer: &mut W,
+) -> Result<bool, StreamFault> {
+    let mut room = Vec::new(alloc);
+    for _ in 0..u64::MAX {
+        let Some(line) = next_line(room, reader, writer)? else {
+            return Ok(true);
+        };
+        match play_line(alloc, port, &line, writer)? {
+            Standing::Runs => {}
+            Standing::HasLeft => return Ok(true),
+            Standing::Broken => return Ok(false),
+        }
+        room = line.into_room(alloc);
+    }
+    Ok(true)
+}
+
+/// Opens the node by its first line: that it founds its cluster, or anything else, which is done then. Gives how it stands behind it.
+fn open_by<W: Write>(
+    alloc: Global,
+    node: &Node,
+    world: &NodeSet,
+    line: &Line,
+    writer: &mut W,
+) -> Result<(Port, Standing), StreamFault> {
+    let founds = says_founds(line);
+    let mut port = Port::open(alloc, node, world, founds)?;
+    let standing = if founds {
+        port.show_state()?;
+        port.write(writer)?;
+        Standing::Runs
+    } else {
+        play_line(alloc, &mut port, line, writer)?
+    };
+    Ok((port, standing))
+}
+
+/// Runs this node of a world of first nodes by the lines of a reader, until they end or the node has left, and writes what comes of
+/// each: whether each line of a link was the next of it.
+pub fn run_node<R: Read, W: Write>(
+    alloc: Global,
+    node: &Node,
+    world: &NodeSet,
+    reader: &mut BufReader<R, Global>,
+    writer: &mut W,
+) -> Result<bool, StreamFault> {
+    let Some(first) = next_line(Vec::new(alloc), reader, writer)? else {
+        return Ok(true);
+    };
+    let (mut port, standing) = open_by(alloc, node, world, &first, writer)?;
+    let in_order = match standing {
+        Standing::Runs => play_lines(alloc, &mut port, reader, writer)?,
+        Standing::HasLeft => true,
+        Standing::Broken => false,
+    };
+    hand_on(writer)?;
+    Ok(in_order)
+}

@@ -1,0 +1,10 @@
+use Rattle.std.proofs.Common.{◌≡◌, ◌++◌, string_bytes, drop}
+use Rattle.std.specs.Prelude.{flat_map}
+use Rattle.wire_end.specs.Orders.{kill_line}
+use Rattle.wire_end.proofs.orders.push_kills.Given as goal
+
+-- the lines of the processes so far stand behind the text
+abbrev pub invariant-loop-process : goal.invariant-loop-process
+invariant-loop-process l =
+    string_bytes l.text ++ flat_map (kill_line l.node) (drop l.process-index l.kills)
+    ≡ string_bytes l.fn.text ++ flat_map (kill_line l.node) l.kills
