@@ -1,9 +1,9 @@
 """Nodes as programs, without Erlang: each node of a world runs as `cluster_main node`, and the lines that they print for each other are
 handed on in an order that is drawn. What happens is played as a script at the same time.
 
-Behind each line the script has to answer what the program answered, in the same order: the answers to calls, process by process, and the
-words of refusals. Now and then, and in the end, the table that a program showed by its lines has to be the one that its node has in the
-script, and so do its members, and what its processes were sent.
+Behind each line the script has to answer what the program answered, in the same order: the answers to calls, and the words of refusals.
+Now and then, and in the end, the table that a program showed by its lines has to be the one that its node has in the script, and so do its
+members, and what its processes were sent. Some lines of links are spoiled and said before: they are refused, and nothing else is done.
 
 A program tries refused rounds again by itself, and reads its letters to itself at once. How many steps it made is asked behind each line:
 so it is known how many of them were trials. Where it isn't known whether a trial came before the letters to itself or behind them the run
@@ -11,6 +11,7 @@ ends there.
 """
 
 import collections
+import dataclasses
 import random
 import re
 import subprocess
@@ -26,6 +27,10 @@ RUNS_AT_ONCE = 10
 MOST_LINES = 400
 # How often time goes by before a call at a node that waits, until it tries again.
 MOST_TICKS = 70
+# A run may take as long as so many answers may.
+ANSWERS_OF_A_RUN = 4
+# How many of the lines of links are said before so that they spell nothing.
+SPOILED = 0.05
 # The tag of the question behind each line. Calls have others.
 MARK = "0"
 
@@ -47,7 +52,7 @@ class Port:
         self.steps = 0
         self.table, self.members, self.joined = {}, [node], False
         self.waits = self.is_over = False
-        self.killed, self.notices = [], collections.defaultdict(list)
+        self.killed, self.notices, self.refused = [], collections.defaultdict(list), []
 
     def end(self):
         self.timer.cancel()
@@ -97,6 +102,8 @@ class Port:
             self.notices[words[0]].append("=".join(words[1:]))
         elif word == "wait":
             self.waits = True
+        elif word == "error":
+            self.refused.append(text)
         else:
             raise Failure(f"{self.node} printed `{word} {text}` for `{line}`")
 
@@ -105,6 +112,7 @@ class Run:
     """Programs, the links between them, and the script of what happens."""
 
     def __init__(self, program, seed):
+        program = dataclasses.replace(program, seconds=ANSWERS_OF_A_RUN * program.seconds)
         self.chance = random.Random(seed)
         count = self.chance.choice([2, 2, 3, 3, 3, 4, 4, 5, 6, 8])
         self.nodes = sorted(self.chance.sample("abcdefgh", count))
@@ -239,8 +247,20 @@ class Run:
     def delivers(self, sender, receiver):
         """Hands on the next line of a link."""
         text = self.links[sender, receiver].popleft()
+        if self.chance.random() < SPOILED:
+            self.spoils(sender, receiver, text)
         is_part = text.split(" ")[2].startswith("+")
         self.does(receiver, f"letter {sender} {text}", None if is_part else f"deliver {sender} {receiver}")
+
+    def spoils(self, sender, receiver, text):
+        """Says a line of a link so that it spells nothing: it is refused, and nothing else is printed or done."""
+        number, stamp, letter = text.split(" ", 2)
+        line = self.chance.choice([f"{number} {stamp} x{letter}", f"{text} x", f"{number}x {stamp} {letter}", f"{number} {letter}", f"0{text}"])
+        port = self.ports[receiver]
+        before, refused = (port.steps, port.table, port.members), len(port.refused)
+        printed = port.says(f"letter {sender} {line}")
+        if printed != ([], []) or len(port.refused) != refused + 1 or (port.steps, port.table, port.members) != before:
+            raise Failure(f"{receiver} took `letter {sender} {line}` for a line, and printed {printed}")
 
     def leave(self, node):
         self.ticks(node)

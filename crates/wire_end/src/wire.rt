@@ -67,7 +67,10 @@ impl Wire {
     fn is_next(&self, number: u64) -> bool
         ensures { result ≡ is_next self.now number }
     {
-        !self.is_down && number > 0 && number - 1 == self.read
+        match self.read.checked_add(1) {
+            Some(next) => !self.is_down && number == next,
+            None => false,
+        }
     }
 
     /// A line was read that has this number and says this part of a letter: the letter, where that is whole now.
