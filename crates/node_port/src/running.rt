@@ -1,4 +1,11 @@
 //! A node from its first line to its end.
+ghost use Rattle.std.specs.Prelude.{◌≡◌, true, MatchResult};
+ghost use Rattle.std.specs.List.{All};
+ghost use Rattle.std.specs.Io.Buffered.{reader_remaining};
+ghost use Rattle.term.specs.Nodes.{IsFirst};
+ghost use Rattle.term.specs.NodeSets.{set_of};
+ghost use Rattle.node_port.specs.Ran.{NodeRan, NodeStopped};
+
 use crate::commands::{read_command, says_founds};
 use crate::port::{Port, Standing};
 use node_loop::TurnFault;
@@ -86,14 +93,26 @@ fn open_by<W: Write>(
 }
 
 /// Runs this node of a world of first nodes by the lines of a reader, until they end or the node has left, and writes what comes of
-/// each: whether each line of a link was the next of it.
+/// each: whether each line of a link was the next of it. A line that is refused changes nothing. The first line may say that the node
+/// founds its cluster; else it is lone.
+///
+/// What was written is handed on before the reader waits for more, and in the end. Where lines can't be read or written, or memory is
+/// refused, a part is written of what those print that were done.
 pub fn run_node<R: Read, W: Write>(
     alloc: Global,
     node: &Node,
     world: &NodeSet,
     reader: &mut BufReader<R, Global>,
     writer: &mut W,
-) -> Result<bool, StreamFault> {
+) -> Result<bool, StreamFault>
+    requires known { set_of world.now node.now ≡ true }
+    requires first { All IsFirst world.now }
+    ensures { MatchResult result
+        (NodeRan node.now world.now (reader_remaining R.remaining reader.old) (reader_remaining R.remaining reader.new)
+        (W.contents writer.old) (W.contents writer.new))
+        (NodeStopped node.now world.now (reader_remaining R.remaining reader.old) (reader_remaining R.remaining reader.new)
+        (W.contents writer.old) (W.contents writer.new)) }
+{
     let Some(first) = next_line(Vec::new(alloc), reader, writer)? else {
         return Ok(true);
     };
