@@ -116,13 +116,7 @@ fn serve_command<'a>(alloc: Global) -> Result<Command<'a>, AllocError>
 }
 
 /// An argument that stands at this place, counted from 1, which help calls by this name.
-fn argument<'a>(
-    alloc: Global,
-    place: usize,
-    id: &'a str,
-    value: &'a str,
-    help: &'a str,
-) -> Arg<'a>
+fn argument<'a>(alloc: Global, place: usize, id: &'a str, value: &'a str, help: &'a str) -> Arg<'a>
     ensures rule { rule_of result ≡ placed place id.entry.now }
     ensures local { result.global ≡ false }
 {
@@ -139,7 +133,13 @@ fn node_command<'a>(alloc: Global) -> Result<Command<'a>, AllocError>
     ensures shape { IfOk result (λ command. app_of command ≡ record { top = node_shape; subs = [] }) }
     ensures local { IfOk result (λ command. (fields_of command).has_globals ≡ false) }
 {
-    let node = argument(alloc, 1, "node", "NODE", "The node, which is one of the list");
+    let node = argument(
+        alloc,
+        1,
+        "node",
+        "NODE",
+        "The node, which is one of the list",
+    );
     let nodes = argument(
         alloc,
         2,

@@ -4,9 +4,7 @@ use arrayvec::ArrayVec;
 use command_lines::{Call, Event, LineFault, Pair, Task, WorldEvent, read_words, text_of};
 use letter_lines::{LetterFault, Part, read_part};
 use std::alloc::{AllocError, Global};
-use term::{
-    Node, Pid, Rule, TextFault, parse_name, parse_node, parse_pid, parse_rule,
-};
+use term::{Node, Pid, Rule, TextFault, parse_name, parse_node, parse_pid, parse_rule};
 use text_lines::{Line, MOST_WORDS, first_words};
 use wire_end::LinkLine;
 

@@ -100,10 +100,7 @@ fn fault_text(fault: &TaskFault) -> &'static str
 }
 
 /// The text of what came of a task, with its end.
-fn outcome_text(
-    alloc: Global,
-    outcome: Result<Effect, TaskFault>,
-) -> Result<String, AllocError>
+fn outcome_text(alloc: Global, outcome: Result<Effect, TaskFault>) -> Result<String, AllocError>
     ensures { IfOk result (λ text. string_bytes text ≡ ended (any_outcome_text (outcome_of outcome))) }
 {
     match outcome {

@@ -24,7 +24,10 @@ fn a_founder_gives_a_name(rt: HostRuntime) -> Result<(), Fail> {
     let lines = b"founds\n1 spawn\n2 register x self\n3 register x self\n";
     let result = run(rt.alloc(), lines, &mut written);
     assert!(rt; matches!(result, Ok(true)));
-    assert_eq!(rt; written.as_slice(), b"state joined a\n1 a.1\nput x a.1\n2 yes\n3 no\n");
+    assert_eq!(rt;
+        written.as_slice(),
+        b"state joined a\n1 a.1\nput x a.1\n2 yes\n3 no\n"
+    );
     Ok(())
 }
 
@@ -34,6 +37,9 @@ fn a_lone_node_asks_to_join(rt: HostRuntime) -> Result<(), Fail> {
     let lines = b"1 join b\nletter b 1 9 join_refused\nletter b 3 11 applied\n2 spawn\n";
     let result = run(rt.alloc(), lines, &mut written);
     assert!(rt; matches!(result, Ok(false)));
-    assert_eq!(rt; written.as_slice(), b"send b 1 1 join_ask\n1 not_member\ngap b 3\n");
+    assert_eq!(rt;
+        written.as_slice(),
+        b"send b 1 1 join_ask\n1 not_member\ngap b 3\n"
+    );
     Ok(())
 }

@@ -69,9 +69,9 @@ sends : (o : Opening) (s : Wiring) (to : ℕ) (i : Item) (t : Wiring) → leads_
 sends o s to (Letter l) t here h = (
   ap (leads_inside o) h.1 ∙ (inside_by o s to l ∙ here),
   ap dealt_of h.1
-  ∙ (ap (λ (ps : List (ℕ × Stamped)). record { sent = λ x. letters_of x (posted to l s).sent; taken = λ f. letters_of f ps }) (taken_by s to l)
-  ∙ (ap (λ (ps : List (ℕ × Stamped)). record { sent = λ x. letters_of x ps; taken = λ f. letters_of f s.taken }) (sent_by s to l)
-  ∙ ap (λ (f : ℕ → List Item). record { sent = f; taken = λ x. letters_of x s.taken }) (fun_ext (more to l s.sent)))),
+      ∙ (ap (λ (ps : List (ℕ × Stamped)). record { sent = λ x. letters_of x (posted to l s).sent; taken = λ f. letters_of f ps }) (taken_by s to l)
+      ∙ (ap (λ (ps : List (ℕ × Stamped)). record { sent = λ x. letters_of x ps; taken = λ f. letters_of f s.taken }) (sent_by s to l)
+      ∙ ap (λ (f : ℕ → List Item). record { sent = f; taken = λ x. letters_of x s.taken }) (fun_ext (more to l s.sent)))),
 )
 sends o s to (Task k) t here h = absurd h
 
@@ -92,11 +92,10 @@ gives o s from (Letter l) t here (inr h) =
     let first = both (in_world o s.node) (list_all (λ w. in_world o w.node) s.wires && list_all (λ x. in_world o x.0) s.heard) here in
     let second = both (list_all (λ w. in_world o w.node) s.wires) (list_all (λ x. in_world o x.0) s.heard) first.1 in
     let third = both (in_world o from) (list_all (λ x. in_world o x.0) t.heard)
-        (sym (ap (list_all (λ x. in_world o x.0)) h.oldest) ∙ second.1) in
-    (
+    (sym (ap (list_all (λ x. in_world o x.0)) h.oldest) ∙ second.1) in (
       ap (leads_inside o) h.rest
-      ∙ (ap (λ (b : Bool). b && (list_all (λ w. in_world o w.node) s.wires && list_all (λ x. in_world o x.0) t.heard)) first.0
-      ∙ (ap (λ (b : Bool). b && list_all (λ x. in_world o x.0) t.heard) second.0 ∙ third.1)),
+          ∙ (ap (λ (b : Bool). b && (list_all (λ w. in_world o w.node) s.wires && list_all (λ x. in_world o x.0) t.heard)) first.0
+          ∙ (ap (λ (b : Bool). b && list_all (λ x. in_world o x.0) t.heard) second.0 ∙ third.1)),
       third.0,
       ap dealt_of h.rest ∙ takes_more s from l,
     )

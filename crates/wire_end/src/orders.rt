@@ -45,11 +45,7 @@ fn push_notices(text: &mut String, node: &Node, notices: &[Noted]) -> Result<(),
 
 /// The lines of what a letter orders for the processes of this node: of its kills first, and then of its notices. Most letters order
 /// nothing, and take no memory.
-pub(crate) fn orders_of(
-    alloc: Global,
-    node: &Node,
-    letter: &Letter,
-) -> Result<String, AllocError>
+pub(crate) fn orders_of(alloc: Global, node: &Node, letter: &Letter) -> Result<String, AllocError>
     ensures { IfOk result (λ text. string_bytes text ≡ orders_in node.now letter.now) }
 {
     let mut text = String::new(alloc);
