@@ -1,5 +1,5 @@
 -- What the exits of a `?` say.
-use Rattle.std.proofs.Common.{◌≡◌, ℕ, List, [], ◌∷◌, ◌++◌, Result, Err, MatchResult, inl, inr}
+use Rattle.std.proofs.Common.{◌≡◌, ℕ, List, [], ◌∷◌, ◌++◌, Option, Some, None, Result, Err, MatchOption, MatchResult, inl, inr}
 use Rattle.term.specs.declared.faults.TextFault.{TextFault}
 use Rattle.letter_lines.specs.Grammar.{Kind, FirstRefused, Value, Spells}
 
@@ -17,3 +17,9 @@ refused_before (k ∷ kinds) more [] others f h = absurd h
 refused_before (k ∷ kinds) more (text ∷ texts) others f (inl h) = inl h
 refused_before (k ∷ kinds) more (text ∷ texts) others f (inr h) =
     inr (h.0, h.1, refused_before kinds more texts others f h.2)
+
+-- what is known of an option, where each case follows
+pub match_weaker : {A : Type 0} (r : Option A) (P R : Type 0) (Q S : A → Type 0) → MatchOption r P Q → (P → R)
+    → ((x : A) → Q x → S x) → MatchOption r R S
+match_weaker None P R Q S h f g = f h
+match_weaker (Some x) P R Q S h f g = g x h

@@ -88,12 +88,14 @@ right_of false b h = cc
 pub found_row : (P : Row → Type 0) (word : List ℕ) (texts : List (List ℕ)) (rows : List Row) → AllByRecursion P rows
     → (row : Row) → row_of word texts rows ≡ Some row → P row × (fits row.texts texts ≡ true) × (word ≡ row.word)
 found_row P word texts [] all row e = absurd (cc e)
-found_row P word texts (x ∷ rows) all row e = by (fits x.texts texts && bytes_eq word x.word) refl e
+found_row P word texts (x ∷ rows) all row e =
+    by (fits x.texts texts && bytes_eq word x.word) refl (λ h. found_row P word texts rows all.1 row h) e
   where
     by : (t : Bool) → (fits x.texts texts && bytes_eq word x.word) ≡ t
+        → (row_of word texts rows ≡ Some row → P row × (fits row.texts texts ≡ true) × (word ≡ row.word))
         → cond t (Some x) (row_of word texts rows) ≡ Some row → P row × (fits row.texts texts ≡ true) × (word ≡ row.word)
-    by false n h = found_row P word texts rows all.1 row h
-    by true y h =
+    by false n behind h = behind h
+    by true y behind h =
         let same : x ≡ row = cc h in
         subst (λ (z : Row). P z × (fits z.texts texts ≡ true) × (word ≡ z.word)) same (
           all.0,

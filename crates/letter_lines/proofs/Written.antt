@@ -42,28 +42,70 @@ pair_back word x p r = ap (λ (s : ARule). word ∷ bytes_of x ∷ process_bytes
 all_written : AllByRecursion IsWritten grammar
 all_written = (
   record { lacks = lacks_space (codes "ask") refl; writes = λ r q p. refl },
-  record { lacks = lacks_space (codes "answer") refl; writes = λ r q p g. refl },
-  record { lacks = lacks_space (codes "give") refl; writes = λ r q p a. refl },
-  record { lacks = lacks_space (codes "given") refl; writes = λ p. refl },
-  record { lacks = lacks_space (codes "release") refl; writes = λ p. refl },
-  record { lacks = lacks_space (codes "put") refl; writes = λ x p r. pair_back (codes "put") x p r },
-  record { lacks = lacks_space (codes "remove") refl; writes = λ x. refl },
-  record { lacks = lacks_space (codes "strike") refl; writes = λ p. refl },
-  record { lacks = lacks_space (codes "applied") refl; writes = refl },
-  record { lacks = lacks_space (codes "join_ask") refl; writes = refl },
-  record { lacks = lacks_space (codes "join_refused") refl; writes = refl },
-  record { lacks = lacks_space (codes "admit") refl; writes = λ n. refl },
-  record { lacks = lacks_space (codes "welcome") refl; writes = refl },
-  record { lacks = lacks_space (codes "down") refl; writes = refl },
-  record { lacks = lacks_space (codes "+pair") refl; writes = λ x p r. pair_back (codes "+pair") x p r },
-  record { lacks = lacks_space (codes "+put") refl; writes = λ x p r. pair_back (codes "+put") x p r },
-  record { lacks = lacks_space (codes "+remove") refl; writes = λ x. refl },
-  record { lacks = lacks_space (codes "+kill") refl; writes = λ p. refl },
-  record { lacks = lacks_space (codes "+notice") refl; writes = λ p x. refl },
-  record { lacks = lacks_space (codes "+notice") refl; writes = λ p x q. refl },
-  record { lacks = lacks_space (codes "+member") refl; writes = λ n. refl },
-  record { lacks = lacks_space (codes "+told") refl; writes = λ n. refl },
-  tt,
+  (
+    record { lacks = lacks_space (codes "answer") refl; writes = λ r q p g. refl },
+    (
+      record { lacks = lacks_space (codes "give") refl; writes = λ r q p a. refl },
+      (
+        record { lacks = lacks_space (codes "given") refl; writes = λ p. refl },
+        (
+          record { lacks = lacks_space (codes "release") refl; writes = λ p. refl },
+          (
+            record { lacks = lacks_space (codes "put") refl; writes = λ x p r. pair_back (codes "put") x p r },
+            (
+              record { lacks = lacks_space (codes "remove") refl; writes = λ x. refl },
+              (
+                record { lacks = lacks_space (codes "strike") refl; writes = λ p. refl },
+                (
+                  record { lacks = lacks_space (codes "applied") refl; writes = refl },
+                  (
+                    record { lacks = lacks_space (codes "join_ask") refl; writes = refl },
+                    (
+                      record { lacks = lacks_space (codes "join_refused") refl; writes = refl },
+                      (
+                        record { lacks = lacks_space (codes "admit") refl; writes = λ n. refl },
+                        (
+                          record { lacks = lacks_space (codes "welcome") refl; writes = refl },
+                          (
+                            record { lacks = lacks_space (codes "down") refl; writes = refl },
+                            (
+                              record { lacks = lacks_space (codes "+pair") refl; writes = λ x p r. pair_back (codes "+pair") x p r },
+                              (
+                                record { lacks = lacks_space (codes "+put") refl; writes = λ x p r. pair_back (codes "+put") x p r },
+                                (
+                                  record { lacks = lacks_space (codes "+remove") refl; writes = λ x. refl },
+                                  (
+                                    record { lacks = lacks_space (codes "+kill") refl; writes = λ p. refl },
+                                    (
+                                      record { lacks = lacks_space (codes "+notice") refl; writes = λ p x. refl },
+                                      (
+                                        record { lacks = lacks_space (codes "+notice") refl; writes = λ p x q. refl },
+                                        (
+                                          record { lacks = lacks_space (codes "+member") refl; writes = λ n. refl },
+                                          (
+                                            record { lacks = lacks_space (codes "+told") refl; writes = λ n. refl },
+                                            tt,
+                                          ),
+                                        ),
+                                      ),
+                                    ),
+                                  ),
+                                ),
+                              ),
+                            ),
+                          ),
+                        ),
+                      ),
+                    ),
+                  ),
+                ),
+              ),
+            ),
+          ),
+        ),
+      ),
+    ),
+  ),
 )
 
 -- what is made of texts has their words

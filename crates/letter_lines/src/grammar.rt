@@ -202,6 +202,22 @@ fn with_four(
     }
 }
 
+/// A word with three texts and what stands behind them: a fourth text, or too many.
+fn with_last(
+    word: &str,
+    first: &str,
+    second: &str,
+    third: &str,
+    rest: &str,
+) -> Result<Part, LetterFault>
+    ensures { WordsRead (word.now ∷ first.now ∷ second.now ∷ third.now ∷ words rest.now) result }
+{
+    match cut(rest) {
+        None => with_four(word, first, second, third, rest),
+        Some(_) => Err(LetterFault::BadLine),
+    }
+}
+
 /// Reads a part of a letter. Its words are parted by one space each. `BadLine`: there is no such word, or it has another number of
 /// texts, or what says `yes` or `no`, or `ack` or `quiet`, says neither; `Text`: the first text from the left that spells nothing
 /// is refused so. It takes no memory.
@@ -220,8 +236,5 @@ pub fn read_part(text: &str) -> Result<Part, LetterFault>
     let Some((third, rest)) = cut(rest) else {
         return with_three(word, first, second, rest);
     };
-    match cut(rest) {
-        None => with_four(word, first, second, third, rest),
-        Some(_) => Err(LetterFault::BadLine),
-    }
+    with_last(word, first, second, third, rest)
 }

@@ -1,10 +1,21 @@
 //! Processes in letters, where the registrar of a node is one, too.
-ghost use Rattle.std.specs.Prelude.{◌≡◌, IfOk, MatchOption, MatchResult, string_bytes};
+ghost use Rattle.std.specs.Prelude.{◌≡◌, ℕ, IfOk, MatchOption, MatchResult, string_bytes};
 ghost use Rattle.registry_model.specs.Process.{Process};
+ghost use Rattle.term.specs.Spelling.{SpellsNode};
 ghost use Rattle.letter_lines.specs.Processes.{SpellsRegistrar, SpellsProcess, RefusesProcess};
 
 use std::alloc::{AllocError, Global};
 use term::{Pid, TextFault, parse_node, parse_pid, print_node, print_pid};
+
+/// The registrar of the node that a text spells.
+fn registrar_of(node: &str) -> Option<Pid>
+    ensures { MatchOption result ((n : ℕ) → SpellsNode node.now n → ⊥) (λ p. SpellsNode node.now p.node × (p.serial ≡ 0)) }
+{
+    match parse_node(node) {
+        Ok(node) => Some(Pid { node, serial: 0 }),
+        Err(_) => None,
+    }
+}
 
 /// Reads the registrar of a node: the node, a dot and 0.
 fn parse_registrar(text: &str) -> Option<Pid>
@@ -13,12 +24,10 @@ fn parse_registrar(text: &str) -> Option<Pid>
     let Some((node, serial)) = text.split_once('.') else {
         return None;
     };
-    if serial != "0" {
-        return None;
-    }
-    match parse_node(node) {
-        Ok(node) => Some(Pid { node, serial: 0 }),
-        Err(_) => None,
+    if serial == "0" {
+        registrar_of(node)
+    } else {
+        None
     }
 }
 

@@ -59,7 +59,7 @@ fn refusal(alloc: Global, lines: &str) -> &'static str {
 }
 
 #[test]
-fn letters_are_printed_and_read_again(rt: TestRuntime) {
+fn letters_are_printed_and_read_again(rt: HostRuntime) {
     let alloc = rt.alloc();
     let rows = [
         "ask lock a a.1",
@@ -74,12 +74,12 @@ fn letters_are_printed_and_read_again(rt: TestRuntime) {
         "+member a | +member c/2 | +pair x a.1 exit | +told b/3 | +kill c/2.1 | +notice c/2.2 y | welcome",
     ];
     for row in rows {
-        assert!(is_again(alloc, row));
+        assert!(rt; is_again(alloc, row));
     }
 }
 
 #[test]
-fn other_lines_are_refused(rt: TestRuntime) {
+fn other_lines_are_refused(rt: HostRuntime) {
     let alloc = rt.alloc();
     let rows = [
         ("", "bad_line"),
@@ -108,19 +108,19 @@ fn other_lines_are_refused(rt: TestRuntime) {
         ),
     ];
     for (lines, word) in rows {
-        assert_eq!(refusal(alloc, lines), word);
+        assert_eq!(rt; refusal(alloc, lines), word);
     }
 }
 
 #[test]
-fn a_refused_part_changes_nothing(rt: TestRuntime) {
+fn a_refused_part_changes_nothing(rt: HostRuntime) {
     let alloc = rt.alloc();
     let mut gathering = Gathering::new(alloc);
     let mut printed = String::new(alloc);
-    assert!(read_lines(&mut gathering, &mut printed, "+pair x a.1 exit | applied").is_err());
-    assert!(read_line(&mut gathering, &mut printed, "join_ask").is_ok());
-    assert_eq!(printed.as_str(), "+pair x a.1 exit | join_ask");
-    assert!(read_line(&mut gathering, &mut printed, "+kill a.1").is_ok());
+    assert!(rt; read_lines(&mut gathering, &mut printed, "+pair x a.1 exit | applied").is_err());
+    assert!(rt; read_line(&mut gathering, &mut printed, "join_ask").is_ok());
+    assert_eq!(rt; printed.as_str(), "+pair x a.1 exit | join_ask");
+    assert!(rt; read_line(&mut gathering, &mut printed, "+kill a.1").is_ok());
     gathering.clear();
-    assert!(gathering.is_empty());
+    assert!(rt; gathering.is_empty());
 }
