@@ -1,3 +1,4 @@
+mod Keys
 mod Algebra
 pub mod ExactNodes
 mod ExactPids

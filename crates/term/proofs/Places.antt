@@ -25,11 +25,11 @@ lesser_digit unit b c p q below fits =
     omega (arith, next, grown)
 
 -- the number of a text in one place more
-place_in-suc : (k b : ℕ) (bs : List ℕ) → place_in (suc k) (b ∷ bs) ≡ b * 256 ^ k + place_in k bs
+pub place_in-suc : (k b : ℕ) (bs : List ℕ) → place_in (suc k) (b ∷ bs) ≡ b * 256 ^ k + place_in k bs
 place_in-suc k b bs = let drops : suc k - 1 ≡ k = omega arith in rw drops refl
 
 -- bytes as digits behind a point stay below the unit
-place_in-below : (k : ℕ) (bs : List ℕ) → length bs ≤ k → AllDigits bs → place_in k bs < 256 ^ k
+pub place_in-below : (k : ℕ) (bs : List ℕ) → length bs ≤ k → AllDigits bs → place_in k bs < 256 ^ k
 place_in-below k [] fits d = one-le-pow k 256 (omega arith)
 place_in-below zero (b ∷ bs) fits d = absurd (omega arith)
 place_in-below (suc k) (b ∷ bs) fits d =

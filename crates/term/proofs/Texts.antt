@@ -35,7 +35,7 @@ AllDigits-allowed (b ∷ bs) h =
     (is_allowed-above b b_allowed, is_allowed-below b b_allowed, AllDigits-allowed bs rest)
 
 -- the bytes of a text are digits
-AllDigits-text : (bs : List ℕ) → IsText bs → AllDigits bs
+pub AllDigits-text : (bs : List ℕ) → IsText bs → AllDigits bs
 AllDigits-text bs t = AllDigits-allowed bs (list_all-from_AllPass is_allowed bs t.allowed)
 
 -- the order of the numbers is the byte order of the texts

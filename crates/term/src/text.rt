@@ -5,8 +5,10 @@ ghost use Rattle.std.specs.Hash as fed;
 ghost use Rattle.std.specs.Ordering.{nat_cmp, as_partial_cmp};
 ghost use Rattle.std.specs.List.{AllPass};
 ghost use Rattle.std.proofs.Common.{rules};
+ghost use Rattle.std.specs.Prelude.{get_or};
 ghost use Rattle.registry_model.specs.Process.{text_of};
 ghost use Rattle.term.specs.Spelling.{is_allowed as is_allowed_byte, IsFirstBad, IsText, SpellsText, RefusesText, bytes_of};
+ghost use Rattle.term.specs.Keys.{key_of as any_key};
 
 use crate::faults::TextFault;
 use arrayvec::ArrayString;
@@ -16,22 +18,27 @@ use std::fmt;
 use std::hash::{Hash, Hasher};
 use std::marker::Model;
 
+/// How many of a text's bytes are in its key.
+const KEY_BYTES: usize = 8;
+
 /// A text of 1 to 64 bytes, each an ASCII letter, a digit, `_`, `-` or `@`, held in place.
 #[derive(Drop)]
 pub(crate) struct ShortText {
+    /// The first bytes as one number: most texts that differ differ in it, and it is compared before they are.
+    key: u64,
     bytes: ArrayString<64>,
 }
 
 impl Model for ShortText {
     ghost use Rattle.std.specs.Prelude.{ℕ};
     ghost use Rattle.registry_model.specs.Process.{text_of};
-    ghost use Rattle.term.specs.Spelling.{IsText};
+    ghost use Rattle.term.specs.Keys.{IsKeyed};
 
     ghost Value = { ℕ };
 
     ghost view = { λ t. text_of t.bytes.bytes };
 
-    ghost invariant = { λ t. IsText t.bytes.bytes };
+    ghost invariant = { λ t. IsKeyed t.bytes.bytes t.key };
 }
 
 /// Whether a byte may stand in a text.
@@ -48,6 +55,29 @@ fn first_bad(bytes: &[u8]) -> Option<usize>
     bytes.iter().position(|byte| !is_allowed(*byte))
 }
 
+/// The byte at a place, or 0 behind the last.
+fn byte_at(bytes: &[u8], place: usize) -> u64
+    ensures { result ≡ get_or bytes.now place 0 }
+{
+    match bytes.get(place) {
+        Some(byte) => u64::from(*byte),
+        None => 0,
+    }
+}
+
+/// The key of a text.
+fn key_of(text: &str) -> u64
+    requires { IsText text.now }
+    ensures { result ≡ any_key text.now }
+{
+    let bytes = text.as_bytes();
+    let mut key = 0;
+    for place in 0..KEY_BYTES {
+        key = key * 256 + byte_at(bytes, place);
+    }
+    key
+}
+
 impl ShortText {
     /// Reads a text.
     pub(crate) fn parse(text: &str) -> Result<Self, TextFault>
@@ -60,14 +90,15 @@ impl ShortText {
         if let Some(place) = first_bad(text.as_bytes()) {
             return Err(TextFault::BadByte(place));
         }
-        Ok(ShortText { bytes })
+        Ok(ShortText {
+            key: key_of(text),
+            bytes,
+        })
     }
 
     /// A text of one byte.
     pub(crate) fn shortest() -> Self {
-        let mut bytes = ArrayString::new();
-        bytes.push('a');
-        ShortText { bytes }
+        ShortText::of("a")
     }
 
     /// The text of these bytes, which are known to be one.
@@ -77,7 +108,10 @@ impl ShortText {
     {
         let mut bytes = ArrayString::new();
         bytes.push_str(text);
-        ShortText { bytes }
+        ShortText {
+            key: key_of(text),
+            bytes,
+        }
     }
 
     /// Its bytes.
@@ -92,7 +126,10 @@ impl ShortText {
     pub(crate) fn copy(&self) -> Self
         ensures { result ≡ self.now }
     {
-        ShortText { bytes: self.bytes }
+        ShortText {
+            key: self.key,
+            bytes: self.bytes,
+        }
     }
 }
 
@@ -112,7 +149,7 @@ impl PartialEq for ShortText {
     ghost laws = { Prim.search (comparing, rules) };
 
     fn eq(&self, other: &Self) -> bool {
-        self.bytes == other.bytes
+        self.key == other.key && self.bytes == other.bytes
     }
 }
 
@@ -140,7 +177,10 @@ impl Ord for ShortText {
     ghost matches_eq = { Prim.search (comparing, rules) };
 
     fn cmp(&self, other: &Self) -> Ordering {
-        self.bytes.cmp(&other.bytes)
+        match self.key.cmp(&other.key) {
+            Ordering::Equal => self.bytes.cmp(&other.bytes),
+            decided => decided,
+        }
     }
 }
 

@@ -4,4 +4,4 @@ use Rattle.term.proofs.text.ShortText.as_str.Goals as goal
 
 pub returns-clause-bytes : goal.returns-clause-bytes
 returns-clause-bytes c =
-    rw (← c.self.view_is) (c.as_str.ensures.value ∙ sym (bytes_of-text_of _ c.self.invariant))
+    rw (← c.self.view_is) (c.as_str.ensures.value ∙ sym (bytes_of-text_of _ c.self.invariant.text))

@@ -3,4 +3,4 @@ use Rattle.term.proofs.text.ShortTextHash.hash.Goals as goal
 
 pub returns : goal.returns
 returns g c =
-    rw (← c.self.view_is, bytes_of-text_of _ c.self.invariant) (c.hash.ensures)
+    rw (← c.self.view_is, bytes_of-text_of _ c.self.invariant.text) (c.hash.ensures)
