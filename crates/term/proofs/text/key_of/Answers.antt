@@ -1,4 +1,4 @@
-use Rattle.std.proofs.Common.{◌≡◌, ℕ, suc, ◌*◌, ◌<◌, ◌^◌, ◌+◌, take, get_or, arith, sym, ◌∙◌, ap}
+use Rattle.std.proofs.Common.{◌≡◌, suc, ◌*◌, ◌<◌, ◌^◌, ◌+◌, take, get_or, arith, sym}
 use Rattle.registry_model.specs.Process.{place_in}
 use Rattle.term.specs.Keys.{key_length}
 use Rattle.term.proofs.Keys.{place_in-room, place_in-next}
