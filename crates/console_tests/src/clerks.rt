@@ -3,7 +3,7 @@ use console::{
     Attendant, ConsoleEnd, ConsoleFault, DescribeFault, Load, Order, Status, answer_lines,
 };
 use descriptions::Description;
-use node_threads::{Call, NodeStatus, Numbers, Reply, SeatFault, StepFault};
+use server::{Call, NodeStatus, Numbers, Reply, SeatFault, StepFault};
 use std::alloc::Global;
 use std::io::{BufReader, Cursor, Read, Write};
 use term::{Node, NodeSet, Pid, parse_node_name};

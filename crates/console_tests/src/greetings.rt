@@ -3,7 +3,7 @@ use crate::ends::{Ended, ended_by};
 use crate::faults::are_lines_of;
 use crate::streams::{Full, Torn};
 use console::{ConsoleFault, Cookie, greet, refuse_seat};
-use node_threads::SeatFault;
+use server::SeatFault;
 use std::alloc::Global;
 use std::io::{BufReader, Cursor, Read, Write};
 use std::time::Clock;

@@ -1,7 +1,7 @@
 //! The words for faults that no console meets at a running cluster.
 use crate::clerks::{Clerk, is_answered};
 use console::ConsoleEnd;
-use node_threads::{SeatFault, StepFault};
+use server::{SeatFault, StepFault};
 use std::alloc::Global;
 
 /// Whether a line that is refused for the fault is answered so, and the console goes on.

@@ -6,7 +6,7 @@ use crate::faults::{are_lines_of, line_ends};
 use crate::streams::{Full, Torn};
 use console::{Client, ConsoleEnd, serve, serve_staying};
 use name_table::ListTable;
-use node_threads::{Cluster, OpenGate, Seat, Transcript};
+use server::{Cluster, OpenGate, Seat, Transcript};
 use std::alloc::Global;
 use std::io::{BufReader, Cursor, Read, Write};
 use std::sync::atomic::{AtomicU32, Ordering};

@@ -13,6 +13,9 @@ mod taking;
 pub use console::Cookie;
 pub use entry::Entry;
 pub use faults::{ServeFault, StayFault};
-pub use node_threads::{NodeStatus, Numbers, StartFault};
+pub use node_threads::{
+    Call, Cluster, NodeStatus, Numbers, OpenGate, Reply, Seat, SeatFault, StartFault, StepFault,
+    Transcript,
+};
 pub use serving::run_serve;
 pub use staying::{Lookout, Spent, StayOptions, run_stay};
