@@ -83,9 +83,9 @@ module _ (log : Written) where
 
   -- behind the step of a leave
   behind_leave : (k : Kept) → All (IsLogged log) k.replies → All (IsLogged log) (left_by k).replies
-  behind_leave k h = All-append (IsLogged log) k.replies (leaves_told k.leaves ++ flat_map call_refused k.calls) h
-      (All-append (IsLogged log) (leaves_told k.leaves) (flat_map call_refused k.calls) (of_leaves k.leaves)
-      (told_each call_refused (λ c. told_so (Some c.ticket) (Err NodeLeft) tt) k.calls))
+  behind_leave k h = All-append (IsLogged log) (k.replies ++ leaves_told k.leaves) (flat_map call_refused k.calls)
+      (All-append (IsLogged log) k.replies (leaves_told k.leaves) h (of_leaves k.leaves))
+      (told_each call_refused (λ c. told_so (Some c.ticket) (Err NodeLeft) tt) k.calls)
 
   module _ (stamp : ℕ) (own : Option Ticket) where
     behind_answers : (answers : List AnyAnswer) → All (LogsAnswer log stamp) answers → (k : Kept) → All (IsLogged log) k.replies

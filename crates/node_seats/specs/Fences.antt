@@ -27,11 +27,17 @@ abbrev pub grants : AnyReply → Bool
 grants True = true
 grants _ = false
 
--- by a step of this stamp a loop of this node has granted a lock, as its log says
-pub record IsGrant (name stamp : ℕ) : Type 0 where
+-- a loop of this node came to where its log has a step of this stamp that grants a lock
+pub record LogsGrant (name stamp : ℕ) : Type 0 where
+  pub node : Looping
+  pub came : IsLoopOf name node
   pub answer : AnyAnswer
-  pub grants_it : grants answer.reply ≡ true
-  pub logged : HasLogged name stamp answer
+  pub logged : LogsAnswer node.log stamp answer
+  pub granted : grants answer.reply ≡ true
+
+-- a loop of this node has logged so
+abbrev pub HasGranted : ℕ → ℕ → Type 0
+HasGranted name stamp = ∥ LogsGrant name stamp ∥₁
 
 -- it asks for a lock
 abbrev pub sets_lock : Call → Bool

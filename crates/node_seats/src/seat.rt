@@ -1,5 +1,6 @@
 //! Seats: from each, one caller calls one node.
-ghost use Rattle.std.specs.Prelude.{◌≡◌, [], true, false, OnOk, IfOk, IfErr, IfSome, Err};
+ghost use Rattle.std.specs.Prelude.{◌≡◌, [], true, false, OnOk, IfOk, IfErr, Err};
+ghost use Rattle.std.specs.Option.{ForSome};
 ghost use Rattle.shared_table.specs.Events.{knows_contact as knows};
 ghost use Rattle.shared_table.specs.declared.Event.TheVariants.{Exit, Leave, Call as Calls};
 ghost use Rattle.shared_table.specs.declared.WorldEvent.TheVariants.{At};
@@ -9,7 +10,7 @@ ghost use Rattle.node_seats.specs.Replies.{HasLeft};
 ghost use Rattle.node_seats.specs.declared.fault.SeatFault.TheVariants.{NoSuchNode};
 ghost use Rattle.node_seats.specs.Callers.{name_of, nodes_of, IsEnd};
 ghost use Rattle.node_seats.specs.Faults.{IsAskRefused, IsUnmade};
-ghost use Rattle.node_seats.specs.Fences.{IsGrant, fence_of};
+ghost use Rattle.node_seats.specs.Fences.{HasGranted, fence_of};
 
 use crate::asking::Given;
 use crate::beside::{Beside, Nobody};
@@ -35,7 +36,7 @@ pub struct Seat<T: Notes = KeptNotes> {
     notes: T,
     /// The stamp of the step that granted it a lock last.
     granted: Option<u64>,
-    ghost logged: { IfSome granted (λ stamp. IsGrant (name_of caller) stamp) },
+    ghost logged: { ForSome granted (λ stamp. HasGranted (name_of caller) stamp) },
 }
 
 impl<T: Notes> Model for Seat<T> {
@@ -207,7 +208,7 @@ impl<T: Notes> Seat<T> {
     /// times eight, and the place of the node among the cluster's. `None`: it was granted none.
     pub fn fence(&self) -> Option<u128>
         ensures number { result ≡ fence_of self.now.nodes self.now.node self.now.granted }
-        ensures logged { IfSome self.now.granted (λ stamp. IsGrant self.now.node stamp) }
+        ensures logged { ForSome self.now.granted (λ stamp. HasGranted self.now.node stamp) }
     {
         fence_of(self.caller.nodes(), self.caller.node(), self.granted)
     }

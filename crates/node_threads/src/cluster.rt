@@ -123,9 +123,7 @@ where
         ensures err { IfErr result (λ fault. start_refused cluster.now lone.now ≡ start_fault_of fault) }
     {
         let opening = Opening::of(cluster, lone)?;
-        Ok(Self::opened(
-            rt, alloc, &opening, cluster, lone, gate, yields, stamp,
-        )?)
+        Ok(Self::opened(rt, alloc, &opening, cluster, lone, gate, yields, stamp)?)
     }
 
     /// The cluster of a world that opens so.

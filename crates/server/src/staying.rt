@@ -136,8 +136,7 @@ where
     ensures { StaysCluster cluster.now lone.now listening.now (W.contents writer.old) (W.contents writer.new) result }
 {
     let begin = microseconds(rt);
-    let Ok(running) =
-        StayingCluster::start(rt, alloc, cluster, lone, OpenGate, YIELDS, begin)
+    let Ok(running) = StayingCluster::start(rt, alloc, cluster, lone, OpenGate, YIELDS, begin)
     else {
         return Err(StayFault::Start);
     };
