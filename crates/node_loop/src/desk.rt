@@ -173,12 +173,7 @@ impl Desk {
     }
 
     /// An answer, of the step of this stamp, goes to whom it is for.
-    fn answer(
-        &mut self,
-        stamp: u64,
-        own: Option<Ticket>,
-        answer: &Answer,
-    ) -> Result<(), AllocError>
+    fn answer(&mut self, stamp: u64, own: Option<Ticket>, answer: &Answer) -> Result<(), AllocError>
         ensures ok { OnOk result (self.new ≡ answered stamp own (answer_of answer.now) self.old) }
         ensures unchanged { OnErr result (self.new.replies ≡ self.old.replies) }
     {
