@@ -152,7 +152,7 @@ def elects(program, root):
 
 
 def numbers_rise(program, root):
-    """Holders in turn at three nodes have rising numbers, each of its node's place; those behind a restart are greater than all before,
+    """Holders in turn at three nodes have rising numbers, each of its node's place; those after a restart are greater than all before,
     and all of them near the clock."""
     client = client_of(root)
     numbers = []
@@ -179,11 +179,11 @@ def numbers_rise(program, root):
         served.expect_closed()
     for one, next_one in zip(numbers, numbers[1:]):
         if not one < next_one:
-            raise Failure(f"the number {next_one} comes behind {one}")
+            raise Failure(f"the number {next_one} comes after {one}")
 
 
 def guards(program, root):
-    """A page takes no write of a writer behind which another has written."""
+    """A page takes no write of a writer after whom another has written."""
     folder = tempfile.TemporaryDirectory()
     with folder, Served(program, ["--stay", "--nodes", "a,b", "--consoles", "3"]) as served:
         script = f"{root}/clients/python/examples/guarded.py"

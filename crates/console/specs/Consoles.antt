@@ -126,8 +126,8 @@ module _ {S : Type 0} (answers : Answering S) (stands : Stands S) where
 
 module _ {S : Type 0} (answers : Answering S) (stands : Stands S) (stays : Bool) where
   -- This is printed for what a line says, this is left, and so it ends the console, if it does: an order is printed as it was answered,
-  -- and how the node and the server stand, or the step that granted the console a lock last, as it was told, which asks for nothing. Of the names that were answered only those are printed
-  -- that begin as the line says
+  -- and how the node and the server stand, or the number of the step that granted the console a lock last, as it was told, which asks for
+  -- nothing. Of the names that were answered only those are printed that begin as the line says
   abbrev pub Heeds : Talk S → Result Command LineFault → List ℕ → Talk S → Option ConsoleEnd → Type 0
   Heeds s (Ok (Ask order)) text t ended =
       (r : Result Reply SeatFault) × answers s.state order (may_wait order s.links) r t.state × (t.links ≡ left_by order r s.links) × (text ≡ outcome_text r)

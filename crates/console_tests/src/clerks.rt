@@ -14,7 +14,7 @@ const SAID: &str = " tcp://10.0.0.5:80  v2 ";
 /// As many lines as a console of a server that doesn't stay may have.
 pub(crate) const MOST_LINES: u64 = 1_000_000;
 
-/// What its numbers of locks begin behind: more than 64 bits have.
+/// What its numbers of locks begin above: more than 64 bits have.
 const FIRST_FENCE: u128 = 100_000_000_000_000_000_000;
 
 /// An attendant at the node `a` that gives a new process for each spawn, answers `true` to all else but exits, and notes what it was asked.

@@ -1,5 +1,5 @@
-//! Consoles of a server that stays and of others: `shutdown`, `status`, `fence`, `help`, names by their beginning, as many lines as may come, and how
-//! each console ended.
+//! Consoles of a server that stays and of others: `shutdown`, `status`, `fence`, `help`, names by their beginning, as many lines as may come,
+//! and how each console ended.
 use crate::clerks::{Clerk, answers, hold, is_answered, leaves};
 use crate::ends::{Ended, ended_by};
 use console::{ConsoleEnd, ConsoleFault};

@@ -1,7 +1,7 @@
 //! When a server starts.
 use std::time::{Clock, SystemTime, UNIX_EPOCH};
 
-/// The microseconds that have passed since 1970, as the system's clock has it; 0 where it tells no time behind that.
+/// The microseconds that have passed since 1970, as the system's clock has it; 0 where it tells no time after that.
 pub(crate) fn microseconds<R: Clock>(rt: &R) -> u64 {
     let Ok(now) = SystemTime::now(rt) else {
         return 0;
