@@ -1,5 +1,5 @@
 -- Where a loop of a node tells an answer, its log has it; and what a seat is granted.
-use Rattle.std.proofs.Common.{ℕ, ◌≡◌, Bool, true, false, Option, Some, Ok, refl, subst}
+use Rattle.std.proofs.Common.{ℕ, ◌≡◌, Bool, true, false, Option, Some, Ok, refl, sym, subst}
 use Rattle.std.specs.Prelude.{◌&&◌, if◌then◌else◌}
 use Rattle.std.specs.Option.{ForSome}
 use Rattle.std.proofs.Math.Logic.{∥∥₁_map}
@@ -22,6 +22,9 @@ pub granted_so : (name stamp : ℕ) (answer : Answer) (sets : Bool) (last : Opti
     → ForSome (if sets && grants (reply_of answer.reply) then Some stamp else last) (λ n. HasGranted name n)
 granted_so name stamp answer sets last logged before = go sets (grants (reply_of answer.reply)) (λ e. e)
   where
+    same : {n : ℕ} → Some stamp ≡ Some n → stamp ≡ n
+    same e = cc
+
     go : (b g : Bool) → (g ≡ true → grants (reply_of answer.reply) ≡ true)
         → ForSome (if b && g then Some stamp else last) (λ n. HasGranted name n)
     go true true is = λ n e. subst (HasGranted name) (same e) (∥∥₁_map logged
@@ -29,5 +32,8 @@ granted_so name stamp answer sets last logged before = go sets (grants (reply_of
     go true false is = before
     go false g is = before
 
-    same : {n : ℕ} → Some stamp ≡ Some n → stamp ≡ n
-    same e = cc
+-- by other names of the same
+pub granted_at : (name other : ℕ) (last now : Option ℕ) → other ≡ name → now ≡ last → ForSome last (λ n. HasGranted name n)
+    → ForSome now (λ n. HasGranted other n)
+granted_at name other last now p q =
+    subst (λ (x : ℕ × Option ℕ). ForSome x.1 (λ n. HasGranted x.0 n)) (λ j. (sym p j, sym q j))
