@@ -229,13 +229,19 @@ class Connection:
         """Gives one grant of a lock back."""
         self.ask(f"del_lock {process} {resource} {requester} {nodes}")
 
+    def fence(self) -> int:
+        """A number for the last lock that this connection was granted: who holds the resource later, under another requester and with a
+        node in common, has a greater one. Raises `Refused` (`no_grant`) where it was granted none."""
+        return int(self.ask("fence").split(" ")[1])
+
     @contextmanager
-    def lock(self, resource: str, process: str, requester: str, nodes: str = "all") -> Iterator[None]:
-        """Holds a lock for the length of a block, after waiting for it. The lock is gone where the connection ends inside the block: what
-        needs it has to notice that by what it asks the server."""
+    def lock(self, resource: str, process: str, requester: str, nodes: str = "all") -> Iterator[int]:
+        """Holds a lock for the length of a block, after waiting for it, and gives its number (`fence`). The lock is gone where the
+        connection ends inside the block: what needs it has to notice that by what it asks the server, or to show the number where it
+        writes."""
         self.set_lock(resource, process, requester, nodes)
         try:
-            yield
+            yield self.fence()
         finally:
             try:
                 self.del_lock(resource, process, requester, nodes)

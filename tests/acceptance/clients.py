@@ -4,6 +4,7 @@ import importlib.util
 import os
 import subprocess
 import sys
+import tempfile
 import time
 from functools import partial
 
@@ -13,13 +14,18 @@ from .served import Served, wait_for
 COOKIE = "0123456789abcdef"
 
 
-def client_of(root):
-    """The client as a module."""
-    found = importlib.util.spec_from_file_location("yaltzumin", f"{root}/clients/python/yaltzumin.py")
+def load(name, path):
+    """A file as a module."""
+    found = importlib.util.spec_from_file_location(name, path)
     module = importlib.util.module_from_spec(found)
-    sys.modules.setdefault("yaltzumin", module)
+    sys.modules.setdefault(name, module)
     found.loader.exec_module(module)
     return module
+
+
+def client_of(root):
+    """The client as a module."""
+    return load("yaltzumin", f"{root}/clients/python/yaltzumin.py")
 
 
 def expect(what, wanted, found):
@@ -68,9 +74,14 @@ def has_it_all(program, root, *options):
             expect_refused(client, "bad_byte", other.names, "x!")
             expect_refused(client, "bad_byte", other.wait_for, "x!")
             expect("a word of the help", True, "spawn_link" in other.help())
-            with one.lock("r", first, "me"):
+            expect_refused(client, "no_grant", one.fence)
+            with one.lock("r", first, "me") as number:
+                expect("the number of a lock", number, one.fence())
+                expect_refused(client, "no_grant", other.fence)
                 expect("the lock of another", False, other.set_lock("r", lone, "it", retries=0))
             expect("the lock when it is free", True, other.set_lock("r", lone, "it", retries=0))
+            if not other.fence() > number:
+                raise Failure("the later holder of a lock has no greater number")
             other.del_lock("r", lone, "it")
             expect_refused(client, "not_live", one.set_lock, "r", "b.1", "me")
             one.exit(second)
@@ -140,7 +151,62 @@ def elects(program, root):
                 two.end()
 
 
+def numbers_rise(program, root):
+    """Holders in turn at three nodes have rising numbers, each of its node's place; those after a restart are greater than all before,
+    and all of them near the clock."""
+    client = client_of(root)
+    numbers = []
+    with Served(program, ["--stay", "--nodes", "a,b,c", "--consoles", "3"]) as served:
+        for _ in range(2):
+            begin = time.time_ns() // 1000
+            with client.connect(served.address, "a") as a, client.connect(served.address, "b") as b, client.connect(served.address, "c") as c:
+                processes = [server.spawn() for server in (a, b, c)]
+                for turn in range(9):
+                    place = turn % 3
+                    with (a, b, c)[place].lock("r", processes[place], f"holder-{place}") as number:
+                        numbers.append(number)
+                    expect("the place of the node", place, number % 8)
+                if not abs(numbers[-1] // 8 - begin) < 60_000_000:
+                    raise Failure(f"the number {numbers[-1]} isn't of this minute, {8 * begin}")
+                expect("the number of a lock that was given back", numbers[-3], a.fence())
+            served.process.kill()
+            served.end()
+            served.start([program.path, "serve", "--stay", "--listen", f"unix:{served.socket}", "--nodes", "a,b,c"])
+            served.read_line()
+        with client.connect(served.address) as last:
+            expect_refused(client, "no_grant", last.fence)
+            last.shutdown()
+        served.expect_closed()
+    for one, next_one in zip(numbers, numbers[1:]):
+        if not one < next_one:
+            raise Failure(f"the number {next_one} comes after {one}")
+
+
+def guards(program, root):
+    """A page takes no write of a writer after whom another has written."""
+    folder = tempfile.TemporaryDirectory()
+    with folder, Served(program, ["--stay", "--nodes", "a,b", "--consoles", "3"]) as served:
+        script = f"{root}/clients/python/examples/guarded.py"
+        environment = {**os.environ, "PYTHONDONTWRITEBYTECODE": "1"}
+        words = [sys.executable, script, served.socket, f"{folder.name}/page"]
+        done = subprocess.run([*words, "one", "1"], stdin=subprocess.DEVNULL, stdout=subprocess.PIPE, env=environment, timeout=served.seconds)
+        expect("what one writer says", b"one has written\n", done.stdout)
+        page = load("guarded", script).Page(f"{folder.name}/page")
+        client = client_of(root)
+        with client.connect(served.address, "b") as late, client.connect(served.address, "a") as next_one:
+            with late.lock("page", late.spawn(), "late") as number:
+                expect("a write", True, page.write("late", number))
+            with next_one.lock("page", next_one.spawn(), "next") as greater:
+                expect("the next write", True, page.write("next", greater))
+            expect("a write that comes late", False, page.write("late", number))
+            expect("another of the same number", True, page.write("next", greater))
+            next_one.shutdown()
+        served.expect_closed()
+
+
 def tests(program, root):
     yield Test("clients/has_it_all_at_a_socket", partial(has_it_all, program, root))
     yield Test("clients/has_it_all_over_tcp", partial(has_it_all, program, root, "--cookie", COOKIE))
     yield Test("clients/elects", partial(elects, program, root))
+    yield Test("clients/numbers_rise", partial(numbers_rise, program, root))
+    yield Test("clients/guards", partial(guards, program, root))

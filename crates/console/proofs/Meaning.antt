@@ -6,7 +6,7 @@ use Rattle.console.specs.Commands.{AsksFor, AsksForSome, AsksServer, Inquires, i
 use Rattle.console.specs.declared.orders.Order.{Order}
 use Rattle.console.specs.declared.orders.Command.{Command}
 use Rattle.console.specs.declared.orders.Inquiry.{Inquiry}
-use Rattle.console.specs.declared.orders.Command.TheVariants.{Ask, SpawnLink, Quit, Shutdown, Status, Help, NamesFrom, Inquire}
+use Rattle.console.specs.declared.orders.Command.TheVariants.{Ask, SpawnLink, Quit, Shutdown, Status, Fence, Help, NamesFrom, Inquire}
 
 module _ (a b c d e f g h : List ℕ) (words : List (List ℕ)) where
   -- no line has seven words
@@ -29,13 +29,14 @@ module _ (a b c d e f g h : List ℕ) (words : List (List ℕ)) where
   say_more stays (Ok Shutdown) says = (says.0, cc)
   say_more stays (Ok SpawnLink) says = cc
   say_more stays (Ok Status) says = (says.0, cc)
+  say_more stays (Ok Fence) says = (says.0, cc)
   say_more stays (Ok Help) says = (says.0, cc)
   say_more stays (Ok (NamesFrom prefix)) says = absurd (none_chosen stays (Ok (NamesFrom prefix)) says)
   say_more stays (Ok (Inquire inquiry)) says = absurd says.1
   say_more stays (Ok (Ask order)) says =
-      ((λ is. cc, λ _ is. cc, λ is. cc, λ _ is. cc, λ _ is. cc, λ _ _ is. cc, λ _. refl), ask_more (is_lock_word a) (Ok order) says.1)
+      ((λ is. cc, λ _ is. cc, λ is. cc, λ _ is. cc, λ _ is. cc, λ _ is. cc, λ _ _ is. cc, λ _. refl), ask_more (is_lock_word a) (Ok order) says.1)
   say_more stays (Err fault) says = elim says [
-    | inl asks ↦ inl ((λ is. cc, λ _ is. cc, λ is. cc, λ _ is. cc, λ _ is. cc, λ _ _ is. cc, λ _. refl), ask_more (is_lock_word a) (Err fault) asks.1)
+    | inl asks ↦ inl ((λ is. cc, λ _ is. cc, λ is. cc, λ _ is. cc, λ _ is. cc, λ _ is. cc, λ _ _ is. cc, λ _. refl), ask_more (is_lock_word a) (Err fault) asks.1)
     | inr (inl asks) ↦ absurd (none_chosen stays (Err fault) asks)
     | inr (inr asks) ↦ absurd asks.1
   ]

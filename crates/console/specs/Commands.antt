@@ -19,7 +19,7 @@ use Rattle.console.specs.declared.orders.Awaited.TheVariants.{Taken, Lost}
 use Rattle.console.specs.declared.orders.Inquiry.{Inquiry}
 use Rattle.console.specs.declared.orders.Inquiry.TheVariants.{Describe, Description, Find, Wait}
 use Rattle.console.specs.declared.orders.Command.{Command}
-use Rattle.console.specs.declared.orders.Command.TheVariants.{Ask, SpawnLink, Quit, Shutdown, Status, Help, NamesFrom, Inquire}
+use Rattle.console.specs.declared.orders.Command.TheVariants.{Ask, SpawnLink, Quit, Shutdown, Status, Fence, Help, NamesFrom, Inquire}
 
 -- what the node n is asked, as a line of a script asks it. To wait is no event of the protocol: it stands as what no line of a console asks
 abbrev pub line_in : ℕ → Order → Line
@@ -119,6 +119,10 @@ shutdown = codes "shutdown" ∷ []
 abbrev pub status : List (List ℕ)
 status = codes "status" ∷ []
 
+-- the word that asks by which step the console was granted a lock last
+abbrev pub fence : List (List ℕ)
+fence = codes "fence" ∷ []
+
 -- the word that asks which lines there are
 abbrev pub help : List (List ℕ)
 help = codes "help" ∷ []
@@ -164,8 +168,8 @@ SaysElse stays these ws = stays ≡ true → ws ≢ these
 
 -- they do none of what only a console does: it asks its node
 abbrev pub IsAsking : Bool → List (List ℕ) → Type 0
-IsAsking stays ws = (ws ≢ quit) × SaysElse stays shutdown ws × (ws ≢ spawn_link) × SaysElse stays status ws × SaysElse stays help ws
-    × ((text : List ℕ) → SaysElse stays (names_with text) ws) × (stays ≡ true → inquires ws ≡ false)
+IsAsking stays ws = (ws ≢ quit) × SaysElse stays shutdown ws × (ws ≢ spawn_link) × SaysElse stays status ws × SaysElse stays fence ws
+    × SaysElse stays help ws × ((text : List ℕ) → SaysElse stays (names_with text) ws) × (stays ≡ true → inquires ws ≡ false)
 
 -- a text in the place of such a beginning says this: it is refused as a name is
 abbrev pub BeginsNames : List ℕ → Result Command LineFault → Type 0
@@ -187,6 +191,7 @@ WordsSay stays ws (Ok Quit) = ws ≡ quit
 WordsSay stays ws (Ok Shutdown) = SaysAtStaying stays shutdown ws
 WordsSay stays ws (Ok SpawnLink) = ws ≡ spawn_link
 WordsSay stays ws (Ok Status) = SaysAtStaying stays status ws
+WordsSay stays ws (Ok Fence) = SaysAtStaying stays fence ws
 WordsSay stays ws (Ok Help) = SaysAtStaying stays help ws
 WordsSay stays ws (Ok (NamesFrom prefix)) = AsksForSome stays ws (Ok (NamesFrom prefix))
 WordsSay stays ws (Ok (Inquire inquiry)) = AsksServer stays ws (Ok inquiry)

@@ -16,6 +16,7 @@ use Rattle.text_lines.specs.Lines.{BeginsWithLines, LosesLines, LosesInto, HasNo
 use Rattle.text_lines.specs.Writing.{AppendsPart, Growth}
 use Rattle.console.specs.Chosen.{chosen_text}
 use Rattle.console.specs.Commands.{LineSays}
+use Rattle.console.specs.Fences.{fence_outcome}
 use Rattle.console.specs.Greetings.{okay}
 use Rattle.console.specs.Help.{help_line}
 use Rattle.console.specs.Links.{left_by, linked_by, may_wait, most_links, own_text}
@@ -25,7 +26,7 @@ use Rattle.console.specs.declared.ends.ConsoleEnd.TheVariants as by
 use Rattle.console.specs.declared.orders.Order.{Order}
 use Rattle.console.specs.declared.orders.Order.TheVariants.{Call, Exit, Wait, Whereis}
 use Rattle.console.specs.declared.orders.Command.{Command}
-use Rattle.console.specs.declared.orders.Command.TheVariants.{Ask, SpawnLink, Quit, Shutdown, Status, Help, NamesFrom, Inquire}
+use Rattle.console.specs.declared.orders.Command.TheVariants.{Ask, SpawnLink, Quit, Shutdown, Status, Fence, Help, NamesFrom, Inquire}
 use Rattle.console.specs.declared.orders.Inquiry.{Inquiry}
 use Rattle.console.specs.declared.orders.Inquiry.TheVariants as inquiry
 use Rattle.console.specs.declared.describing.DescribeFault.{DescribeFault}
@@ -125,8 +126,8 @@ module _ {S : Type 0} (answers : Answering S) (stands : Stands S) where
 
 module _ {S : Type 0} (answers : Answering S) (stands : Stands S) (stays : Bool) where
   -- This is printed for what a line says, this is left, and so it ends the console, if it does: an order is printed as it was answered,
-  -- and how the node and the server stand as it was told, which asks for nothing. Of the names that were answered only those are printed
-  -- that begin as the line says
+  -- and how the node and the server stand, or the number of the step that granted the console a lock last, as it was told, which asks for
+  -- nothing. Of the names that were answered only those are printed that begin as the line says
   abbrev pub Heeds : Talk S → Result Command LineFault → List ℕ → Talk S → Option ConsoleEnd → Type 0
   Heeds s (Ok (Ask order)) text t ended =
       (r : Result Reply SeatFault) × answers s.state order (may_wait order s.links) r t.state × (t.links ≡ left_by order r s.links) × (text ≡ outcome_text r)
@@ -136,6 +137,8 @@ module _ {S : Type 0} (answers : Answering S) (stands : Stands S) (stays : Bool)
   Heeds s (Ok Shutdown) text t ended = (text ≡ okay) × (t ≡ s) × (ended ≡ Some by.Shutdown)
   Heeds s (Ok Status) text t ended =
       (r : Result Standing SeatFault) × stands s.state (Stand r) × (text ≡ status_outcome r) × (t ≡ s) × (ended ≡ None)
+  Heeds s (Ok Fence) text t ended =
+      (r : Result Standing SeatFault) × stands s.state (Stand r) × (text ≡ fence_outcome r) × (t ≡ s) × (ended ≡ None)
   Heeds s (Ok Help) text t ended = (text ≡ help_line) × (t ≡ s) × (ended ≡ None)
   Heeds s (Ok (NamesFrom prefix)) text t ended =
       ChoosesNames answers prefix s.state text t.state × (t.links ≡ s.links) × (ended ≡ None)

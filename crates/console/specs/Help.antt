@@ -7,7 +7,7 @@ abbrev pub help_words : List (List ℕ)
 help_words =
     codes "spawn" ∷ codes "spawn_link" ∷ codes "exit" ∷ codes "register" ∷ codes "re_register" ∷ codes "unregister" ∷ codes "whereis"
     ∷ codes "names" ∷ codes "describe" ∷ codes "find" ∷ codes "wait" ∷ codes "notices" ∷ codes "set_lock" ∷ codes "del_lock"
-    ∷ codes "join" ∷ codes "leave" ∷ codes "quit" ∷ codes "status" ∷ codes "help" ∷ codes "shutdown" ∷ []
+    ∷ codes "join" ∷ codes "leave" ∷ codes "quit" ∷ codes "status" ∷ codes "fence" ∷ codes "help" ∷ codes "shutdown" ∷ []
 
 -- the line of all of these
 abbrev pub help_line : List ℕ

@@ -14,3 +14,4 @@ pub mod Describing
 pub mod Consoles
 pub mod Seats
 pub mod Statuses
+pub mod Fences

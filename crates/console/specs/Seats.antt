@@ -10,6 +10,7 @@ use Rattle.registry_model.specs.Process.{Process}
 use Rattle.node_seats.specs.declared.fault.SeatFault.TheVariants.{Step, Memory}
 use Rattle.node_seats.specs.declared.StepFault.TheVariants.{NoSuchProcess}
 use Rattle.node_seats.specs.Callers.{IsEnd}
+use Rattle.node_seats.specs.Fences.{fence_of}
 use Rattle.node_seats.specs.Seats.{Sitting, Answered, Unanswered, Done, LooksUp, owner_reply}
 use Rattle.console.specs.declared.orders.Order.{Order}
 use Rattle.console.specs.declared.orders.Order.TheVariants.{Call, Whereis, Exit, Leave, Wait}
@@ -66,10 +67,10 @@ MayNotSay (Step NoSuchProcess) = ⊤
 MayNotSay Memory = ⊤
 MayNotSay f = IsEnd f
 
--- how a seat's node stands is told of that node; or no reply comes any more. Something is said only of the processes of that node. What lies
--- under the lock of what was said no clause tells
+-- how a seat's node stands is told of that node, with the number of the step that granted the seat a lock last; or no reply comes any more.
+-- Something is said only of the processes of that node. What lies under the lock of what was said no clause tells
 abbrev pub SeatStands : Sitting → Fact → Type 0
-SeatStands s (Stand (Ok status)) = status.node.node ≡ s.node
+SeatStands s (Stand (Ok status)) = (status.node.node ≡ s.node) × (status.fence ≡ fence_of s.nodes s.node s.granted)
 SeatStands s (Stand (Err f)) = IsEnd f
 SeatStands s (Said p said) = ⊤
 SeatStands s (Says p text (Ok u)) = p.node ≡ s.node

@@ -14,6 +14,7 @@ use crate::commands::read_command;
 use crate::counting::next_line;
 use crate::describing::{describe_line, description_line, look_up_line};
 use crate::ends::ConsoleEnd;
+use crate::fence::fence_line;
 use crate::help::help_line;
 use crate::links::Links;
 use crate::orders::{Awaited, Command, Inquiry, Order};
@@ -238,6 +239,10 @@ fn reply_to<H, A: Attendant<H>>(
             let status = attendant.status(rt);
             Ok((status_line(alloc, status)?, None))
         }
+        Ok(Command::Fence) => {
+            let status = attendant.status(rt);
+            Ok((fence_line(alloc, status)?, None))
+        }
         Ok(Command::Help) => Ok((String::from_str(alloc, help_line())?, None)),
         Ok(Command::NamesFrom(prefix)) => {
             let text = chosen_names(rt, alloc, attendant, &prefix)?;
@@ -348,10 +353,10 @@ fn exit_all<H, A: Attendant<H>>(rt: &H, attendant: &mut A, links: &Links)
 }
 
 /// Reads lines until `quit` or the end of the input, and answers each with one line: how the console ended. In a console of a
-/// server that stays `shutdown` is answered `ok` and ends it, too, `status` tells how the node and the server stand, `help` which lines
-/// there are, and `names` with the beginning of names those that have it; `describe` says something of a process, or asks what was said,
-/// which `find` tells with the process of a name, and `wait` is answered once a name is there, or isn't that process's. It answers `most`
-/// lines at most.
+/// server that stays `shutdown` is answered `ok` and ends it, too, `status` tells how the node and the server stand, `fence` by which step
+/// a lock was granted last, `help` which lines there are, and `names` with the beginning of names those that have it; `describe` says
+/// something of a process, or asks what was said, which `find` tells with the process of a name, and `wait` is answered once a name is
+/// there, or isn't that process's. It answers `most` lines at most.
 ///
 /// A line that asks something is asked of the attendant, and answered with the text of the reply or the word of the refusal;
 /// any other is refused, an empty one too. What was answered is handed on before the console waits: for a further line where none is at

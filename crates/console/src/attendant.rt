@@ -34,7 +34,8 @@ pub trait Attendant<H> {
     fn ask(&mut self, rt: &H, order: Order, linked: bool) -> Result<Reply, SeatFault>
         ensures { answers (Self.state self.old) order linked result (Self.state self.new) };
 
-    /// How the node stands, and the server that it is of; or why nobody can tell. It is asked in consoles of servers that stay alone.
+    /// How the node stands, and the server that it is of, and by which step a lock was granted last; or why nobody can tell. It is asked
+    /// in consoles of servers that stay alone.
     fn status(&self, rt: &H) -> Result<Status, SeatFault>
         ensures { stands (Self.state self.now) (Stand result) };
 

@@ -7,7 +7,7 @@ ghost use Rattle.command_lines.specs.Commands.{asked_by};
 ghost use Rattle.term.specs.Rules.{SpellsRule};
 ghost use Rattle.term.specs.Spelling.{SpellsText, SpellsPid};
 ghost use Rattle.command_lines.specs.Grammar.{WordsAsk, FirstRefused, Name as AName, Pid as APid, Rule as ARule};
-ghost use Rattle.console.specs.Commands.{LineSays, WordsAskNode, WordsSay, SaysAtStaying, SaysElse, TextSays, AsksServer, BeginsNames, AsksOwn, AsksAsScript, OwnAsk, begins_lock, process_first, process_second, is_lock_word as any_lock_word, meant, meant_by, help, names_with, quit, shutdown, spawn_link, status};
+ghost use Rattle.console.specs.Commands.{LineSays, WordsAskNode, WordsSay, SaysAtStaying, SaysElse, TextSays, AsksServer, BeginsNames, AsksOwn, AsksAsScript, OwnAsk, begins_lock, process_first, process_second, is_lock_word as any_lock_word, meant, meant_by, fence, help, names_with, quit, shutdown, spawn_link, status};
 ghost use Rattle.console.specs.Links.{linked_in, own_text};
 
 use crate::inquiries::{behind_word, described_in, inquiry_in, read_described};
@@ -173,6 +173,17 @@ fn is_status(words: &[&str], stays: bool) -> bool
     }
 }
 
+/// Whether words ask by which step the console was granted a lock last: in a console of a server that stays.
+fn is_fence(words: &[&str], stays: bool) -> bool
+    ensures { MatchBool result (SaysAtStaying stays fence (map (λ word. word.now) words.now))
+        (SaysElse stays fence (map (λ word. word.now) words.now)) }
+{
+    match words {
+        [word] => stays && matches!(*word, "fence"),
+        _ => false,
+    }
+}
+
 /// Whether words ask which lines there are: in a console of a server that stays.
 fn is_help(words: &[&str], stays: bool) -> bool
     ensures { MatchBool result (SaysAtStaying stays help (map (λ word. word.now) words.now))
@@ -264,6 +275,9 @@ fn read_said(
     }
     if is_status(words, stays) {
         return Ok(Ok(Command::Status));
+    }
+    if is_fence(words, stays) {
+        return Ok(Ok(Command::Fence));
     }
     if is_help(words, stays) {
         return Ok(Ok(Command::Help));

@@ -6,5 +6,5 @@ ghost use Rattle.console.specs.Help.{help_line as any_line};
 pub(crate) fn help_line() -> &'static str
     ensures { result.now ≡ any_line }
 {
-    "help spawn spawn_link exit register re_register unregister whereis names describe find wait notices set_lock del_lock join leave quit status help shutdown\n"
+    "help spawn spawn_link exit register re_register unregister whereis names describe find wait notices set_lock del_lock join leave quit status fence help shutdown\n"
 }

@@ -11,6 +11,7 @@ mod counting;
 mod describing;
 mod ends;
 mod faults;
+mod fence;
 mod greeting;
 mod help;
 mod inquiries;

@@ -83,6 +83,8 @@ pub(crate) enum Command {
     Shutdown,
     /// It asks how the node stands, and the server.
     Status,
+    /// It asks by which step the console was granted a lock last.
+    Fence,
     /// It asks which lines there are.
     Help,
     /// It asks for the names that begin with this one.

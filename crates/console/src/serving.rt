@@ -4,6 +4,7 @@ ghost use Rattle.std.specs.Io.Buffered.{reader_remaining};
 ghost use Rattle.text_lines.specs.Lines.{most_lines};
 ghost use Rattle.node_seats.specs.Callers.{IsEnd};
 ghost use Rattle.node_seats.specs.Faults.{IsUnmade};
+ghost use Rattle.node_seats.specs.Fences.{fence_of};
 ghost use Rattle.console.specs.Clients.{is_given_up};
 ghost use Rattle.console.specs.Locking.{is_lock_call as any_lock_call};
 ghost use Rattle.console.specs.Consoles.{EndsBy, Serves, Stops, most_staying};
@@ -107,6 +108,7 @@ impl<H: Wait + Clock, T: Notes> Attendant<H> for Seat<T> {
                 consoles: 0,
                 memory: 0,
             },
+            fence: self.fence(),
         })
     }
 
@@ -408,17 +410,19 @@ impl<'a, T: Notes, C: Client + Drop, B> ClientSeat<'a, T, C, B> {
         }
     }
 
-    /// How the node of the seat stands, and what the house bears.
+    /// How the node of the seat stands, what the house bears, and by which step the seat was granted a lock last.
     fn standing<H>(&self, rt: &H) -> Result<Status, SeatFault>
     where
         B: House<H>,
         ensures node { IfOk result (λ status. status.node.node ≡ self.now.seat.node) }
         ensures load { IfOk result (λ status. B.bears self.now.house.now status.load) }
+        ensures fence { IfOk result (λ status. status.fence ≡ fence_of self.now.seat.nodes self.now.seat.node self.now.seat.granted) }
         ensures ended { IfErr result IsEnd }
     {
         let node = self.seat.status()?;
         let load = self.house.load(rt);
-        Ok(Status { node, load })
+        let fence = self.seat.fence();
+        Ok(Status { node, load, fence })
     }
 }
 

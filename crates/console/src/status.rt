@@ -19,13 +19,15 @@ pub struct Load {
     pub memory: u64,
 }
 
-/// How a node stands, and what its server bears.
+/// How a node stands, what its server bears, and by which step a console at the node was granted a lock last.
 #[derive(Debug, PartialEq, Eq, Drop)]
 pub struct Status {
     /// Of the node.
     pub node: NodeStatus,
     /// Of the server.
     pub load: Load,
+    /// The number of that step, if there was one.
+    pub fence: Option<u128>,
 }
 
 /// A server that serves consoles until one asks for its end, as it tells of itself. It is given what it waits with, of the type `H`.

@@ -14,6 +14,9 @@ const SAID: &str = " tcp://10.0.0.5:80  v2 ";
 /// As many lines as a console of a server that doesn't stay may have.
 pub(crate) const MOST_LINES: u64 = 1_000_000;
 
+/// What its numbers of locks begin above: more than 64 bits have.
+const FIRST_FENCE: u128 = 100_000_000_000_000_000_000;
+
 /// An attendant at the node `a` that gives a new process for each spawn, answers `true` to all else but exits, and notes what it was asked.
 /// Look-ups may find `a.1`, of which something was said; of `a.7` nothing can be.
 #[derive(Drop)]
@@ -26,6 +29,8 @@ pub(crate) struct Clerk {
     /// Whether it refuses exits.
     pub(crate) refuses: bool,
     spawned: u32,
+    /// For how many locks it was asked, each of which it grants.
+    granted: u32,
     /// The serials of the processes whose exit was asked for, in order.
     pub(crate) exits: Vec<u32>,
     /// How much it was asked.
@@ -44,6 +49,7 @@ impl Clerk {
                 finds: false,
                 refuses: false,
                 spawned: 0,
+                granted: 0,
                 exits: Vec::new(alloc),
                 asked: 0,
                 linked: 0,
@@ -67,6 +73,20 @@ impl Clerk {
             node: self.node.copy(),
             serial: self.spawned,
         })
+    }
+
+    /// A lock more is granted.
+    fn grant(&mut self) -> Reply {
+        self.granted = self.granted.saturating_add(1);
+        Reply::True
+    }
+
+    /// A number for the last one.
+    fn fence(&self) -> Option<u128> {
+        if self.granted == 0 {
+            return None;
+        }
+        Some(FIRST_FENCE + u128::from(self.granted))
     }
 
     /// The exit of a process.
@@ -107,6 +127,7 @@ impl<H> Attendant<H> for Clerk {
         }
         match order {
             Order::Call(Call::Spawn) => Ok(self.spawn()),
+            Order::Call(Call::SetLock(..)) => Ok(self.grant()),
             Order::Exit(process) => self.exit(&process),
             Order::Whereis(_) if self.finds => Ok(Reply::Pid(self.first())),
             _ => Ok(Reply::True),
@@ -114,7 +135,7 @@ impl<H> Attendant<H> for Clerk {
     }
 
     fn status(&self, _rt: &H) -> Result<Status, SeatFault> {
-        Ok(status_of(&self.node))
+        Ok(status_of(&self.node, self.fence()))
     }
 
     fn describe(&self, _rt: &H, process: &Pid, text: &Description) -> Result<(), DescribeFault> {
@@ -137,7 +158,7 @@ impl<H> Attendant<H> for Clerk {
 }
 
 /// How a lone node stands that has been in service for a while, and its server.
-fn status_of(node: &Node) -> Status {
+fn status_of(node: &Node, fence: Option<u128>) -> Status {
     Status {
         node: NodeStatus {
             node: node.copy(),
@@ -156,6 +177,7 @@ fn status_of(node: &Node) -> Status {
             consoles: 5,
             memory: 14_680_064,
         },
+        fence,
     }
 }
 

@@ -324,7 +324,7 @@ fn is_closed<R>(rt: &R, alloc: Global, nodes: &[NodeName], node: &NodeName, talk
 where
     R: Threads + Wait + Clock + Drop + Copy + Send + 'static,
 {
-    match Small::start(rt, alloc, nodes, &[], OpenGate, 0) {
+    match Small::start(rt, alloc, nodes, &[], OpenGate, 0, 0) {
         Ok(mut cluster) => {
             let mut told = Vec::new(alloc);
             let fine = talk.holds(rt, alloc, &mut cluster, node, &mut told);

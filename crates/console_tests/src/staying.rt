@@ -1,5 +1,5 @@
-//! Consoles of a server that stays and of others: `shutdown`, `status`, `help`, names by their beginning, as many lines as may come, and how
-//! each console ended.
+//! Consoles of a server that stays and of others: `shutdown`, `status`, `fence`, `help`, names by their beginning, as many lines as may come,
+//! and how each console ended.
 use crate::clerks::{Clerk, answers, hold, is_answered, leaves};
 use crate::ends::{Ended, ended_by};
 use console::{ConsoleEnd, ConsoleFault};
@@ -49,13 +49,28 @@ fn status_is_one_line_of_a_server_that_stays(rt: HostRuntime) {
 }
 
 #[test]
+fn fence_is_one_line_of_a_server_that_stays(rt: HostRuntime) {
+    let alloc = rt.alloc();
+    let text = b"error bad_line\ntrue\nerror bad_line\n".as_slice();
+    let lines = b"fence\nset_lock a.1 r x all 0\nfence\n".as_slice();
+    assert!(rt; answers(alloc, false, lines, text, ConsoleEnd::Input));
+    let text = b"error no_grant\nerror bad_line\ntrue\nfence 100000000000000000001\ntrue\n\
+        fence 100000000000000000001\ntrue\nfence 100000000000000000002\n"
+        .as_slice();
+    let lines = b"fence\nfence a\nset_lock a.1 r x all 0\nfence\ndel_lock a.1 r x all\n\
+        fence\nset_lock a.1 q x all infinity\nfence\n"
+        .as_slice();
+    assert!(rt; answers(alloc, true, lines, text, ConsoleEnd::Input));
+}
+
+#[test]
 fn help_and_names_by_their_beginning_are_lines_of_a_server_that_stays(rt: HostRuntime) {
     let alloc = rt.alloc();
     let text = b"error bad_line\nerror bad_line\n".as_slice();
     assert!(rt; answers(alloc, false, b"help\nnames x\n", text, ConsoleEnd::Input));
     let text =
         b"help spawn spawn_link exit register re_register unregister whereis names describe find wait notices set_lock del_lock join \
-        leave quit status help shutdown\nerror bad_line\nerror bad_byte\nerror bad_line\ntrue\na.1\n";
+        leave quit status fence help shutdown\nerror bad_line\nerror bad_byte\nerror bad_line\ntrue\na.1\n";
     let lines = b"help\nhelp me\nnames x!\nnames x y\nnames x\nspawn\n".as_slice();
     assert!(rt; answers(alloc, true, lines, text.as_slice(), ConsoleEnd::Input));
 }

@@ -29,6 +29,7 @@ loop_on_by (suc n) name a b is x =
     let before = loop_on_by n name a x.0 is x.1 in record {
       nodes = before.nodes;
       cluster = before.cluster;
+      stamp = before.stamp;
       moves = suc before.moves;
       comes = (x.0, before.comes, x.2);
     }

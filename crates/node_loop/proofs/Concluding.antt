@@ -36,8 +36,9 @@ module _ (k : Cause) (a : Looping) (core : Held) (log : Written) (owed : Owed) (
       ∙ ap (λ (es : List Entry). record a.log { entries = es }) (answered_last turn.answers a.log.entries (begun_entry k a))
 
   -- the desk, by the names that the step has
-  desk_path : own ≡ k.own → course ≡ k.course → b.core ≡ core → settled course own core turn.answers a.desk ≡ desk_of k a b.core turn.answers
-  desk_path o q e = λ j. settled (q j) (o j) (sym e j) turn.answers a.desk
+  desk_path : s ≡ stamp_of k a → own ≡ k.own → course ≡ k.course → b.core ≡ core
+      → settled s course own core turn.answers a.desk ≡ desk_of k a b.core turn.answers
+  desk_path p o q e = λ j. settled (p j) (q j) (o j) (sym e j) turn.answers a.desk
 
   -- whatever it is then, what it owes its readers is noted
   abbrev OwesSo : Type 0
@@ -58,7 +59,7 @@ module _ (k : Cause) (a : Looping) (core : Held) (log : Written) (owed : Owed) (
       log = log_path l c.log;
       stamp = c.stamp ∙ e;
       tray = c.told.1 ∙ ap (λ (n : ℕ). with_letters n turn.letters a.tray) e;
-      desk = c.told.0 ∙ desk_path o q c.core;
+      desk = c.told.0 ∙ desk_path e o q c.core;
       noted = (owes (stepped_to c.core step) (log_path l c.log) c.world c.left c.owed).0;
       owing = (owes (stepped_to c.core step) (log_path l c.log) c.world c.left c.owed).1;
       world = c.world;
@@ -74,7 +75,7 @@ module _ (k : Cause) (a : Looping) (core : Held) (log : Written) (owed : Owed) (
       step = stepped_to c.core step;
       log = log_path l c.log;
       tray = puts_at s (stamp_of k a) turn.letters a.tray b.tray e c.told.1;
-      replies = begins_as _ _ _ _ refl (ap (λ (d : Kept). d.replies) (desk_path o q c.core)) c.told.0;
+      replies = begins_as _ _ _ _ refl (ap (λ (d : Kept). d.replies) (desk_path e o q c.core)) c.told.0;
       noted = (owes (stepped_to c.core step) (log_path l c.log) c.world c.left c.owed).0;
       owing = (owes (stepped_to c.core step) (log_path l c.log) c.world c.left c.owed).1;
     }

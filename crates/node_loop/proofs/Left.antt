@@ -20,7 +20,7 @@ use Rattle.node_loop.specs.Told.{Came, Answered, Made, Left, Told, tell}
 use Rattle.node_loop.specs.Waiting.{is_dropped}
 use Rattle.node_loop.specs.Desks.{Kept, Begins, addressee, answered, all_answered, dead_told, drop_told, acceptance, awaiting, settled, left_by}
 use Rattle.node_loop.specs.Held.{Looping, Written}
-use Rattle.node_loop.specs.Steps.{Cause, entry_of, desk_of, Makes, Rests, Begun}
+use Rattle.node_loop.specs.Steps.{Cause, stamp_of, entry_of, desk_of, Makes, Rests, Begun}
 use Rattle.node_loop.specs.Items.{by_leave, Departs}
 use Rattle.node_loop.specs.Coming.{HandsOut, HandsOver, ComesBy, IsLoopOf}
 use Rattle.node_loop.proofs.Moving.{IsKept, turns}
@@ -78,23 +78,23 @@ silent_acceptance Numbered own = refl
 silent_acceptance (OfHolder p) own = refl
 
 -- nor do answers
-behind_answers : (own : Option Ticket) (answers : List AnyAnswer) (k : Kept) → some_left (all_answered own answers k).replies ≡ true
-    → some_left k.replies ≡ true
-behind_answers own [] k t = t
-behind_answers own (a ∷ rest) k t =
-    before k.replies (tell (addressee own k.calls a) (Ok (Answered a))) (silent_tell (addressee own k.calls a) (Ok (Answered a)) refl)
-    (behind_answers own rest (answered own a k) t)
+behind_answers : (stamp : ℕ) (own : Option Ticket) (answers : List AnyAnswer) (k : Kept)
+    → some_left (all_answered stamp own answers k).replies ≡ true → some_left k.replies ≡ true
+behind_answers stamp own [] k t = t
+behind_answers stamp own (a ∷ rest) k t =
+    before k.replies (tell (addressee own k.calls a) (Ok (Answered stamp a))) (silent_tell (addressee own k.calls a) (Ok (Answered stamp a)) refl)
+    (behind_answers stamp own rest (answered stamp own a k) t)
 
 -- nor does what is told of a step
-behind_step : (course : Course) (own : Option Ticket) (h : Held) (answers : List Answer) (k : Kept)
-    → some_left (settled course own h answers k).replies ≡ true → some_left k.replies ≡ true
-behind_step course own h answers k t =
+behind_step : (stamp : ℕ) (course : Course) (own : Option Ticket) (h : Held) (answers : List Answer) (k : Kept)
+    → some_left (settled stamp course own h answers k).replies ≡ true → some_left k.replies ≡ true
+behind_step stamp course own h answers k t =
     before k.replies (acceptance course own) (silent_acceptance course own)
-    (behind_answers own (map answer_of answers) (awaiting course h.last_call own k)
+    (behind_answers stamp own (map answer_of answers) (awaiting course h.last_call own k)
     (before told.replies (flat_map (drop_told h) told.calls) (silent_each (drop_told h) (silent_drop h) told.calls) t))
   where
     told : Kept
-    told = all_answered own (map answer_of answers) (awaiting course h.last_call own k)
+    told = all_answered stamp own (map answer_of answers) (awaiting course h.last_call own k)
 
 -- a leave stays in a log that gets an entry more
 stays : (a b : Written) (e : Entry) → b ≡ record a { entries = a.entries ++ e ∷ [] } → logs_leave a ≡ true → logs_leave b ≡ true
@@ -124,14 +124,14 @@ module _ (k : Cause) (a b : Looping) (h : Logs a) where
   makes M = record {
     named = still_named M.turn.answers M.log M.step.name;
     leave = λ t. stays a.log b.log (entry_of k a M.turn.answers) M.log
-        (h.leave (behind_step k.course k.own b.core M.turn.answers a.desk (ap (λ (d : Kept). some_left d.replies) (sym M.desk) ∙ t)));
+        (h.leave (behind_step (stamp_of k a) k.course k.own b.core M.turn.answers a.desk (ap (λ (d : Kept). some_left d.replies) (sym M.desk) ∙ t)));
   }
 
   begun : Begun k (desk_of k a) a b → Logs b
   begun B = record {
     named = still_named B.turn.answers B.log B.step.name;
     leave = λ t. stays a.log b.log (entry_of k a B.turn.answers) B.log
-        (h.leave (behind_step k.course k.own b.core B.turn.answers a.desk
+        (h.leave (behind_step (stamp_of k a) k.course k.own b.core B.turn.answers a.desk
         (on_beginning b.desk.replies (desk_of k a b.core B.turn.answers).replies B.replies t)));
   }
 
@@ -178,17 +178,17 @@ hands_out a b h H = subst Logs (sym H.rest) (record {
 hands_over : (a b : Looping) → Logs a → HandsOver a b → Logs b
 hands_over a b h e = subst Logs (sym e) (record { named = h.named; leave = h.leave })
 
-comes : (n : ℕ) (core : Held) (b : Looping) → ComesBy n core b → Logs b
-comes zero core b e = subst Logs (sym e) (record { named = refl; leave = λ t. absurd (false≢true t) })
-comes (suc n) core b x = elim x.2 [
-  | inl T ↦ turns Logs kept x.0 b (comes n core x.0 x.1) T
-  | inr (inl H) ↦ hands_out x.0 b (comes n core x.0 x.1) H
-  | inr (inr O) ↦ hands_over x.0 b (comes n core x.0 x.1) O
+comes : (n stamp : ℕ) (core : Held) (b : Looping) → ComesBy n stamp core b → Logs b
+comes zero stamp core b e = subst Logs (sym e) (record { named = refl; leave = λ t. absurd (false≢true t) })
+comes (suc n) stamp core b x = elim x.2 [
+  | inl T ↦ turns Logs kept x.0 b (comes n stamp core x.0 x.1) T
+  | inr (inl H) ↦ hands_out x.0 b (comes n stamp core x.0 x.1) H
+  | inr (inr O) ↦ hands_over x.0 b (comes n stamp core x.0 x.1) O
 ]
 
 module _ (name : ℕ) (b : Looping) (is : IsLoopOf name b) where
   logs : Logs b
-  logs = comes is.moves (opening_core is.nodes is.cluster name) b is.comes
+  logs = comes is.moves is.stamp (opening_core is.nodes is.cluster name) b is.comes
 
   -- where the next reply says so
   pub next_is_logged : (t : Ticket) (later : List Told) → b.desk.replies ≡ told_left t ∷ later → logs_leave b.log ≡ true

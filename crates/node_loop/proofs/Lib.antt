@@ -6,6 +6,7 @@ pub mod Concluding
 pub mod Turning
 pub mod Moving
 pub mod Left
+pub mod Answers
 pub mod Trays
 pub mod Dealing
 pub mod Links

@@ -11,16 +11,16 @@ use Rattle.node_loop.specs.Owing.{nothing_owed}
 use Rattle.node_loop.specs.Steps.{Outcome}
 use Rattle.node_loop.specs.Items.{Works, Idles}
 
--- the loop of a node that begins with this core, before its first turn
-abbrev pub begun : Held → Looping
-begun core = record {
+-- the loop of a node that begins with this core, before its first turn: its steps have stamps above this one
+abbrev pub begun : ℕ → Held → Looping
+begun stamp core = record {
   core = core;
   world = core.world;
   log = record { node = core.name; entries = [] };
   tray = map none_for core.world;
   desk = empty_desk;
   wait = 0;
-  stamp = 0;
+  stamp = stamp;
   owed = nothing_owed;
   left = false;
   worked = false;
@@ -44,13 +44,14 @@ abbrev pub HandsOver : Looping → Looping → Type 0
 HandsOver a b = b ≡ record a { owed = record a.owed { note = b.owed.note } }
 
 -- so many turns, replies handed out, and what is owed handed over lead from the beginning to b
-abbrev pub ComesBy : ℕ → Held → Looping → Type 0
-ComesBy zero core b = b ≡ begun core
-ComesBy (suc n) core b = (a : Looping) × ComesBy n core a × (Turns a b ⊎ HandsOut a b ⊎ HandsOver a b)
+abbrev pub ComesBy : ℕ → ℕ → Held → Looping → Type 0
+ComesBy zero stamp core b = b ≡ begun stamp core
+ComesBy (suc n) stamp core b = (a : Looping) × ComesBy n stamp core a × (Turns a b ⊎ HandsOut a b ⊎ HandsOver a b)
 
 -- it is the loop of this node: it came by turns, and by what it handed out, from the core that such a node opens with in some cluster
 pub record IsLoopOf (name : ℕ) (b : Looping) : Type 0 where
   pub nodes : List ℕ
   pub cluster : List ℕ
+  pub stamp : ℕ  -- at its beginning
   pub moves : ℕ
-  pub comes : ComesBy moves (opening_core nodes cluster name) b
+  pub comes : ComesBy moves stamp (opening_core nodes cluster name) b

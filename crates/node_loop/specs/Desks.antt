@@ -31,16 +31,16 @@ Begins some whole = (rest : List Told) × (whole ≡ some ++ rest)
 abbrev pub addressee : Option Ticket → List Caller → AnyAnswer → Option Ticket
 addressee own calls a = if a.number == 0 then own else ticket_under a.number calls
 
--- who is answered waits no more
-abbrev pub answered : Option Ticket → AnyAnswer → Kept → Kept
-answered own a k = record k {
+-- who is answered, by the step of this stamp, waits no more
+abbrev pub answered : ℕ → Option Ticket → AnyAnswer → Kept → Kept
+answered stamp own a k = record k {
   calls = without a.number k.calls;
-  replies = k.replies ++ tell (addressee own k.calls a) (Ok (Answered a));
+  replies = k.replies ++ tell (addressee own k.calls a) (Ok (Answered stamp a));
 }
 
-abbrev pub all_answered : Option Ticket → List AnyAnswer → Kept → Kept
-all_answered own [] k = k
-all_answered own (a ∷ rest) k = all_answered own rest (answered own a k)
+abbrev pub all_answered : ℕ → Option Ticket → List AnyAnswer → Kept → Kept
+all_answered stamp own [] k = k
+all_answered stamp own (a ∷ rest) k = all_answered stamp own rest (answered stamp own a k)
 
 -- the owner of a lock call is told that its process is dead
 abbrev pub dead_told : Option Process → Ticket → List Told
@@ -69,10 +69,10 @@ awaiting course number own k = record k {
   replies = k.replies ++ acceptance course own;
 }
 
--- a step was made for this ticket, and its answers are told
-abbrev pub settled : Course → Option Ticket → Held → List Answer → Kept → Kept
-settled course own h answers k =
-    swept h (all_answered own (map answer_of answers) (awaiting course h.last_call own k))
+-- a step of this stamp was made for this ticket, and its answers are told
+abbrev pub settled : ℕ → Course → Option Ticket → Held → List Answer → Kept → Kept
+settled stamp course own h answers k =
+    swept h (all_answered stamp own (map answer_of answers) (awaiting course h.last_call own k))
 
 -- whose leave is the first, if one waits
 abbrev pub first_leave : List (Option Ticket) → Option (Option Ticket)

@@ -16,6 +16,7 @@ pub mod Items
 pub mod Turned
 pub mod Coming
 pub mod Left
+pub mod Answers
 pub mod Dealings
 pub mod Said
 pub mod Sound

@@ -72,7 +72,7 @@ entry_of k a answers = record {
 
 -- the desk behind the step
 abbrev pub desk_of : Cause → Looping → Held → List Answer → Kept
-desk_of k a core answers = settled k.course k.own core answers a.desk
+desk_of k a core answers = settled (stamp_of k a) k.course k.own core answers a.desk
 
 -- what a step changes of what the node shows is noted, and owed as the last of so many steps besides what was owed
 pub record IsNoted (k : Cause) (a b : Looping) : Type 0 where
@@ -150,6 +150,6 @@ pub record Concludes {E : Type 0} (given : ℕ) (own : Option Ticket) (course : 
   pub left : b.left ≡ a.left
   pub worked : b.worked ≡ a.worked
   pub told : MatchResult result
-      (λ _. (b.desk ≡ settled course own a.core turn.answers a.desk) × (b.tray ≡ with_letters given turn.letters a.tray))
-      (λ _. Begins b.desk.replies (settled course own a.core turn.answers a.desk).replies
+      (λ _. (b.desk ≡ settled given course own a.core turn.answers a.desk) × (b.tray ≡ with_letters given turn.letters a.tray))
+      (λ _. Begins b.desk.replies (settled given course own a.core turn.answers a.desk).replies
       × PutsSome given turn.letters a.tray b.tray)

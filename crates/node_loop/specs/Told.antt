@@ -1,5 +1,5 @@
 -- What those are told who asked.
-use Rattle.std.specs.Prelude.{Option, Some, None, Result, Ok, Err, List, [], ◌∷◌}
+use Rattle.std.specs.Prelude.{ℕ, Option, Some, None, Result, Ok, Err, List, [], ◌∷◌}
 use Rattle.protocol_model.specs.Event.{Answer as AnyAnswer}
 use Rattle.node_log.specs.NodeEventsSeen.{answer_of}
 use Rattle.node_loop.specs.declared.item.Ticket.{Ticket}
@@ -10,7 +10,7 @@ use Rattle.node_loop.specs.declared.replies.TaskReply.{TaskReply}
 
 -- what came of a task that was accepted
 pub data Came : Type 0 where
-  Answered : (answer : AnyAnswer) → Came
+  Answered : (stamp : ℕ) (answer : AnyAnswer) → Came  -- by the step of this stamp
   Made : Came  -- an exit or a retry, which has no answer
   Left : Came  -- the node has left
 
@@ -21,7 +21,7 @@ pub record Told : Type 0 where
 
 -- what came of it, with the answer as the protocol has it
 abbrev pub came_of : Effect → Came
-came_of (effect.Answered a) = Answered (answer_of a)
+came_of (effect.Answered stamp a) = Answered stamp (answer_of a)
 came_of effect.Made = Made
 came_of effect.Left = Left
 

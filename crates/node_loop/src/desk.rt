@@ -172,9 +172,9 @@ impl Desk {
         }
     }
 
-    /// An answer goes to whom it is for.
-    fn answer(&mut self, own: Option<Ticket>, answer: &Answer) -> Result<(), AllocError>
-        ensures ok { OnOk result (self.new ≡ answered own (answer_of answer.now) self.old) }
+    /// An answer, of the step of this stamp, goes to whom it is for.
+    fn answer(&mut self, stamp: u64, own: Option<Ticket>, answer: &Answer) -> Result<(), AllocError>
+        ensures ok { OnOk result (self.new ≡ answered stamp own (answer_of answer.now) self.old) }
         ensures unchanged { OnErr result (self.new.replies ≡ self.old.replies) }
     {
         let ticket = match answer.call {
@@ -183,16 +183,21 @@ impl Desk {
         };
         let copy = copied(answer)?;
         forget(&mut self.calls, answer.call);
-        self.replies.tell(ticket, Ok(Effect::Answered(copy)))
+        self.replies.tell(ticket, Ok(Effect::Answered(stamp, copy)))
     }
 
     /// Each answer does.
-    fn answer_all(&mut self, own: Option<Ticket>, answers: &[Answer]) -> Result<(), AllocError>
-        ensures ok { OnOk result (self.new ≡ all_answered own (map answer_of answers.now) self.old) }
-        ensures begun { OnErr result (Begins self.new.replies (all_answered own (map answer_of answers.now) self.old).replies) }
+    fn answer_all(
+        &mut self,
+        stamp: u64,
+        own: Option<Ticket>,
+        answers: &[Answer],
+    ) -> Result<(), AllocError>
+        ensures ok { OnOk result (self.new ≡ all_answered stamp own (map answer_of answers.now) self.old) }
+        ensures begun { OnErr result (Begins self.new.replies (all_answered stamp own (map answer_of answers.now) self.old).replies) }
     {
         for answer in answers {
-            self.answer(own, answer)?;
+            self.answer(stamp, own, answer)?;
         }
         Ok(())
     }
@@ -207,20 +212,21 @@ impl Desk {
         Ok(())
     }
 
-    /// A step of the core was made for this ticket, or for nobody: its answers are told. A numbered call waits for its own, if
-    /// that isn't among them.
+    /// A step of the core with this stamp was made for this ticket, or for nobody: its answers are told. A numbered call waits for its
+    /// own, if that isn't among them.
     pub(crate) fn settle<N: Names<Memory = Global>>(
         &mut self,
+        stamp: u64,
         own: Option<Ticket>,
         course: Course,
         core: &NodeCore<N>,
         answers: &[Answer],
     ) -> Result<(), AllocError>
-        ensures ok { OnOk result (self.new ≡ settled course own core.now answers.now self.old) }
-        ensures begun { OnErr result (Begins self.new.replies (settled course own core.now answers.now self.old).replies) }
+        ensures ok { OnOk result (self.new ≡ settled stamp course own core.now answers.now self.old) }
+        ensures begun { OnErr result (Begins self.new.replies (settled stamp course own core.now answers.now self.old).replies) }
     {
         self.await_answer(own, course, core.last_call())?;
-        self.answer_all(own, answers)?;
+        self.answer_all(stamp, own, answers)?;
         self.sweep(core)
     }
 

@@ -1,4 +1,5 @@
 //! Laws of the loops of a world's nodes. Each is the contract of a function with an empty body.
+ghost use Rattle.node_loop.specs.Answers.{AnswersAreLogged};
 ghost use Rattle.node_loop.specs.Left.{LeavesAreLogged};
 ghost use Rattle.node_loop.specs.Telling.{ThreadsAreConsistent};
 
@@ -10,4 +11,9 @@ pub fn threads_are_consistent()
 /// A loop tells a leave's owner that the node has left only where its log has a leave of the node.
 pub fn told_leaves_are_logged()
     ensures { LeavesAreLogged }
+{}
+
+/// A loop tells somebody an answer only where its log has a step that gives it, with the stamp that is told.
+pub fn told_answers_are_logged()
+    ensures { AnswersAreLogged }
 {}

@@ -39,7 +39,7 @@ pub struct NodeLoop<N: Names, L: Record = Log> {
     pub(crate) tray: Tray<Item>,
     pub(crate) desk: Desk,
     pub(crate) courtesy: Courtesy,
-    /// The stamp of the last step; 0 before the first.
+    /// The stamp of the last step; before the first, the one above which they begin.
     pub(crate) stamp: u64,
     /// What its readers are still to be shown.
     pub(crate) owed: Owed,
@@ -67,8 +67,9 @@ impl<N: Names, L: Record> Model for NodeLoop<N, L> {
 }
 
 impl<N: Names<Memory = Global>, L: Record> NodeLoop<N, L> {
-    /// The loop of a node that hasn't taken a step in it: nothing is logged, nothing is to be sent, nobody waits.
-    pub fn new(alloc: Global, core: NodeCore<N>) -> Result<Self, AllocError>
+    /// The loop of a node that hasn't taken a step in it: nothing is logged, nothing is to be sent, nobody waits. The stamps of its steps
+    /// are above this one.
+    pub fn new(alloc: Global, core: NodeCore<N>, stamp: u64) -> Result<Self, AllocError>
         ensures new { IfOk result (λ new. new ≡ record {
           core = core;
           world = core.world;
@@ -76,7 +77,7 @@ impl<N: Names<Memory = Global>, L: Record> NodeLoop<N, L> {
           tray = map none_for core.world;
           desk = empty_desk;
           wait = 0;
-          stamp = 0;
+          stamp = stamp;
           owed = nothing_owed;
           left = false;
           worked = false;
@@ -84,13 +85,13 @@ impl<N: Names<Memory = Global>, L: Record> NodeLoop<N, L> {
         ensures sound { IfOk result (BeginsSound core) }
     {
         let tray = Tray::new(alloc, core.world())?;
-        Ok(NodeLoop::with_tray(alloc, core, tray))
+        Ok(NodeLoop::with_tray(alloc, core, stamp, tray))
     }
 
     /// The loop of a node that hasn't taken a step in it, with a tray of its world in which nothing waits.
-    fn with_tray(alloc: Global, core: NodeCore<N>, tray: Tray<Item>) -> Self
+    fn with_tray(alloc: Global, core: NodeCore<N>, stamp: u64, tray: Tray<Item>) -> Self
         requires { tray ≡ map none_for core.world }
-        ensures begun { result ≡ begun core }
+        ensures begun { result ≡ begun stamp core }
         ensures sound { BeginsSound core result }
     {
         let world = core.world().copy();
@@ -104,7 +105,7 @@ impl<N: Names<Memory = Global>, L: Record> NodeLoop<N, L> {
             tray,
             desk: Desk::new(alloc),
             courtesy,
-            stamp: 0,
+            stamp,
             owed: Owed {
                 note: Note::Nothing,
                 length: 0,

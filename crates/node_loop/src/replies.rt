@@ -27,8 +27,8 @@ pub enum TaskFault {
 /// What came of a task that was accepted.
 #[derive(Debug, PartialEq, Eq, Drop)]
 pub enum Effect {
-    /// The call has this answer.
-    Answered(Answer),
+    /// By the step of this stamp the call has this answer.
+    Answered(u64, Answer),
     /// An exit or a retry was made. It has no answer.
     Made,
     /// The node has left.

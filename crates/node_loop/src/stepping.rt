@@ -127,7 +127,7 @@ impl<N: Names<Memory = Global>, L: Record> NodeLoop<N, L> {
         self.stamp = stamp;
         let told = self
             .desk
-            .settle(own, course, &self.core, answers.as_slice());
+            .settle(stamp, own, course, &self.core, answers.as_slice());
         self.log.answer(answers);
         told?;
         put_all(&mut self.tray, stamp, letters)

@@ -9,6 +9,7 @@ pub handed_out : (name : ℕ) (a b : Looping) (told : Told) → IsLoopOf name a 
 handed_out name a b told came oldest rest = record {
   nodes = came.nodes;
   cluster = came.cluster;
+  stamp = came.stamp;
   moves = suc came.moves;
   comes = (a, came.comes, inr (inl (record { told = told; oldest = oldest; rest = rest })));
 }

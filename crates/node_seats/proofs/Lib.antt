@@ -3,6 +3,7 @@ pub mod Holders
 pub mod Choosing
 mod Coming
 mod Leaving
+mod Granting
 mod Sittings
 pub mod Telling
 mod ShownLengths

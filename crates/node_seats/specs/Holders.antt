@@ -1,7 +1,6 @@
 -- The seat of a lock holder, as its transcript has its lock calls.
 use Rattle.std.specs.Prelude.{Bool, true, false, ◌≡◌, Option, Some, None, List, [], ◌∷◌, ◌++◌, Result, Ok, Err, if◌then◌else◌}
 use Rattle.registry_model.specs.Process.{Process, is_process}
-use Rattle.registry_model.specs.Call.{Reply as AnyReply, True}
 use Rattle.shared_table.specs.declared.Answer.{Answer}
 use Rattle.shared_table.specs.declared.Call.{Call}
 use Rattle.shared_table.specs.declared.Call.TheVariants.{SetLock, DelLock}
@@ -15,12 +14,8 @@ use Rattle.transaction.specs.declared.reply.LockReply.{LockReply}
 use Rattle.transaction.specs.declared.reply.LockReply.TheVariants.{Set, Deleted}
 use Rattle.node_seats.specs.declared.holder.HolderSeat.{HolderSeat}
 use Rattle.node_seats.specs.declared.fault.SeatFault.{SeatFault}
-use Rattle.node_seats.specs.Seats.{Sitting, IsAnswered, with_entry, Unanswered}
-
--- the lock is granted by this reply
-abbrev pub grants : AnyReply → Bool
-grants True = true
-grants _ = false
+use Rattle.node_seats.specs.Fences.{grants}
+use Rattle.node_seats.specs.Seats.{Sitting, IsAnswered, with_answer, Unanswered}
 
 -- the reply that an answered event is to this holder, if it is a lock call of it
 abbrev pub lock_reply : Process → WorldEvent → Answer → List LockReply
@@ -41,9 +36,10 @@ lock_replies me (e ∷ es) = lock_reply_in me e.event e.answer ++ lock_replies m
 -- a lock call was answered: its node's loop told the seat so, and it stands last in the transcript
 pub record Grants (call : Call) (granted : Bool) (s t : Sitting) : Type 0 where
   pub answer : Answer
-  pub told : IsAnswered s (Ok (IsAnswer answer)) t
+  pub stamp : ℕ
+  pub told : IsAnswered s (Ok (IsAnswer stamp answer)) t
   pub says : grants (reply_of answer.reply) ≡ granted
-  pub kept : t ≡ record (with_entry (Calls call) (Some answer) s) { seen = t.seen }
+  pub kept : t ≡ record (with_answer call stamp answer s) { seen = t.seen }
 
 -- what a `set_lock` comes to
 abbrev pub SetsLock : Call → Result Bool SeatFault → Sitting → Sitting → Type 0

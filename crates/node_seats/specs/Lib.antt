@@ -4,6 +4,7 @@ pub mod Addresses
 pub mod Faults
 pub mod Replies
 pub mod Callers
+pub mod Fences
 pub mod Seats
 pub mod Holders
 pub mod Stops

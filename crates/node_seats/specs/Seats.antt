@@ -6,7 +6,7 @@ use Rattle.shared_table.specs.declared.Answer.{Answer}
 use Rattle.shared_table.specs.declared.Call.{Call}
 use Rattle.shared_table.specs.declared.Reply.{Reply}
 use Rattle.shared_table.specs.declared.Reply.TheVariants.{Pid, Undefined}
-use Rattle.shared_table.specs.NodeEventsSeen.{reply_of, is_list}
+use Rattle.shared_table.specs.NodeEventsSeen.{answer_of, reply_of, is_list}
 use Rattle.registry_model.specs.Process.{Process, Text}
 use Rattle.shared_table.specs.declared.Event.{Event}
 use Rattle.shared_table.specs.declared.Event.TheVariants as event
@@ -30,6 +30,7 @@ use Rattle.shared_table.specs.Rule.{StartsWith}
 use Rattle.shared_table.specs.Readers.{Seen, Finds}
 use Rattle.node_seats.specs.Callers.{name_of, place_of, nodes_of, asked_by, seen_of, unseen, Learns}
 use Rattle.node_seats.specs.Faults.{MayAsk}
+use Rattle.node_seats.specs.Fences.{HasLogged, granted_by}
 use Rattle.node_seats.specs.Replies.{IsToldTo}
 
 -- what comes of a look-up in a node's table
@@ -40,7 +41,7 @@ Looked (Err Closed) node x s t = StartsWith t.editions s.editions × (t.told ≡
 Looked (Err fault) node x s t = ⊥
 
 -- a seat: its number, the slot of its replies, its node, the inbox of that, the nodes of its cluster, the events that it has asked its node
--- for, what it has seen of its node's table, and its transcript, the oldest of each first
+-- for, what it has seen of its node's table, what it was granted last, and its transcript, the oldest of each first
 pub record Sitting : Type 0 where
   pub seat : ℕ
   pub slot : ℕ
@@ -49,9 +50,10 @@ pub record Sitting : Type 0 where
   pub nodes : List ℕ
   pub asked : List Event
   pub seen : Seen
+  pub granted : Option ℕ  -- the stamp of the step that granted it a lock last
   pub entries : List SeatEntry
 
--- the seat of a caller, with this transcript
+-- the seat of a caller, with this transcript, which was granted no lock yet
 abbrev pub sitting : Caller → List SeatEntry → Sitting
 sitting c es = record {
   seat = (place_of c).seat;
@@ -61,6 +63,7 @@ sitting c es = record {
   nodes = nodes_of c;
   asked = asked_by c;
   seen = seen_of c;
+  granted = None;
   entries = es;
 }
 
@@ -74,6 +77,7 @@ new_seat place nodes inbox = record {
   nodes = nodes;
   asked = [];
   seen = unseen;
+  granted = None;
   entries = [];
 }
 
@@ -114,8 +118,9 @@ IsUnasked e s t = (t ≡ s) × (knows_contact s.nodes e ≡ true)
 -- transcript is as it was
 pub record KeepsNoList (call : Call) (s t : Sitting) : Type 0 where
   pub answer : Answer
+  pub stamp : ℕ
   pub list : is_list answer.reply ≡ true
-  pub told : IsAnswered s (Ok (IsAnswer answer)) t
+  pub told : IsAnswered s (Ok (IsAnswer stamp answer)) t
   pub kept : t ≡ record s { asked = s.asked ++ event.Call call ∷ []; seen = t.seen }
 
 -- that comes of calls alone
@@ -135,13 +140,20 @@ pub record Done (e : Event) (effect : Effect) (s t : Sitting) : Type 0 where
   pub told : IsAnswered s (Ok effect) t
   pub kept : t ≡ record (with_entry e None s) { seen = t.seen }
 
--- the call got this reply: its node's loop told the seat an answer that says so, and the call stands last in the transcript with that;
--- nothing else changed
+-- behind an answer to this call, by a step of this stamp: it stands last in the transcript
+abbrev pub with_answer : Call → ℕ → Answer → Sitting → Sitting
+with_answer call stamp answer s =
+    record (with_entry (event.Call call) (Some answer) s) { granted = granted_by call stamp answer s.granted }
+
+-- the call got this reply: its node's loop told the seat an answer that says so, by a step that stands in the node's log, and the call stands
+-- last in the transcript with that; nothing else changed
 pub record Answered (call : Call) (reply : Reply) (s t : Sitting) : Type 0 where
   pub answer : Answer
-  pub told : IsAnswered s (Ok (IsAnswer answer)) t
+  pub stamp : ℕ
+  pub told : IsAnswered s (Ok (IsAnswer stamp answer)) t
+  pub logged : HasLogged s.node stamp (answer_of answer)
   pub says : reply_of answer.reply ≡ reply_of reply
-  pub kept : t ≡ record (with_entry (event.Call call) (Some answer) s) { seen = t.seen }
+  pub kept : t ≡ record (with_answer call stamp answer s) { seen = t.seen }
 
 -- what a look-up of one name is answered
 abbrev pub owner_reply : Option Process → Reply

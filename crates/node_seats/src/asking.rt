@@ -1,11 +1,13 @@
 //! What a caller asks its node for: calls, exits and leaves.
 ghost use Rattle.std.specs.Prelude.{◌≡◌, ◌++◌, ◌∷◌, [], false, IfOk, OnOk, IfErr, Ok, Err};
 ghost use Rattle.shared_table.specs.Events.{knows_contact as knows};
+ghost use Rattle.shared_table.specs.NodeEventsSeen.{answer_of};
 ghost use Rattle.shared_table.specs.declared.Event.TheVariants.{Call as Calls, Exit, Leave};
 ghost use Rattle.shared_table.specs.declared.Effect.TheVariants.{Answered, Made, Left};
 ghost use Rattle.node_seats.specs.Callers.{name_of, inbox_of, place_of, nodes_of, asked_by, seen_of, told_of, ticket_of, task_for, Puts, Learns};
 ghost use Rattle.node_seats.specs.declared.fault.SeatFault.TheVariants.{NoSuchNode};
 ghost use Rattle.node_seats.specs.Faults.{IsAskRefused, MayAsk};
+ghost use Rattle.node_seats.specs.Fences.{HasLogged};
 ghost use Rattle.node_seats.specs.Replies.{IsToldTo, IsFaultTold, HasLeft};
 
 use crate::beside::{Beside, Nobody};
@@ -16,14 +18,22 @@ use std::sync::Wait;
 use std::time::Clock;
 use term::Pid;
 
+/// An answer to a call.
+#[derive(Debug, Drop)]
+pub(crate) struct Given {
+    /// The stamp of the step that gave it.
+    pub(crate) stamp: u64,
+    pub(crate) answer: Answer,
+}
+
 impl Caller {
-    /// Asks for a call, and gives its answer. It is refused as `ask` is.
+    /// Asks for a call, and gives its answer, which stands in the node's log. It is refused as `ask` is.
     pub(crate) fn call<R: Wait + Clock, B: Beside>(
         &mut self,
         rt: &R,
         call: Call,
         beside: &B,
-    ) -> Result<Answer, SeatFault>
+    ) -> Result<Given, SeatFault>
         ensures place { place_of self.new ≡ place_of self.old }
         ensures node { name_of self.new ≡ name_of self.old }
         ensures inbox { inbox_of self.new ≡ inbox_of self.old }
@@ -32,12 +42,13 @@ impl Caller {
         ensures known { IfErr result (λ fault. IsAskRefused fault (knows (nodes_of self.old) (Calls call))) }
         ensures asked { OnOk result (asked_by self.new ≡ asked_by self.old ++ Calls call ∷ []) }
         ensures unanswered { IfErr result (λ fault. MayAsk fault (Calls call) (asked_by self.old) (asked_by self.new)) }
-        ensures told { IfOk result (λ answer. IsToldTo (name_of self.old) (ticket_of self.old) (Ok (Answered answer)) (told_of self.new)) }
+        ensures told { IfOk result (λ given. IsToldTo (name_of self.old) (ticket_of self.old) (Ok (Answered given.stamp given.answer)) (told_of self.new)) }
+        ensures logged { IfOk result (λ given. HasLogged (name_of self.old) given.stamp (answer_of given.answer)) }
         ensures refused { IfErr result (λ fault. IsFaultTold (name_of self.old) (ticket_of self.old) fault (told_of self.new)) }
         ensures learns { Learns (seen_of self.old) (seen_of self.new) }
     {
         match self.ask(rt, Event::Call(call), beside)? {
-            Effect::Answered(answer) => Ok(answer),
+            Effect::Answered(stamp, answer) => Ok(Given { stamp, answer }),
             // No call comes to anything else.
             _ => Err(SeatFault::Closed),
         }

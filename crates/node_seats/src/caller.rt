@@ -22,7 +22,7 @@ use shared_table::{Call, Effect, Event, Item, Lookup, TableReader, Task, TaskFau
 use std::alloc::{AllocError, Global};
 use std::sync::{Arc, Wait};
 use std::time::Clock;
-use term::{Name, Node, Pid};
+use term::{Name, Node, NodeSet, Pid};
 
 /// Asks the thread of one node, one event after another, and waits for each reply; and looks names up in the node's table. Contracts see
 /// the node, its place among the seats, the nodes of the cluster, the events that it has put into the node's inbox, and what it has seen of
@@ -132,6 +132,13 @@ impl Caller {
         ensures { result.now ≡ name_of self.now }
     {
         &self.node
+    }
+
+    /// The nodes of its cluster.
+    pub(crate) fn nodes(&self) -> &NodeSet
+        ensures { result.now ≡ nodes_of self.now }
+    {
+        self.hub.nodes()
     }
 
     /// Which seat's it is, and the slot of its replies.

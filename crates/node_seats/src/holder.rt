@@ -2,7 +2,7 @@
 ghost use Rattle.std.specs.Prelude.{◌≡◌, true, IfOk, IfErr};
 ghost use Rattle.shared_table.specs.NodeEventsSeen.{reply_of};
 ghost use Rattle.node_seats.specs.Faults.{IsUnmade};
-ghost use Rattle.node_seats.specs.Holders.{grants};
+ghost use Rattle.node_seats.specs.Fences.{grants};
 
 use crate::fault::SeatFault;
 use crate::seat::Seat;
@@ -13,7 +13,7 @@ use term::{LockId, Pid};
 use transaction::{LockSeat, Nodes, Retries};
 
 /// Whether this reply grants a lock.
-fn is_granted(reply: &Reply) -> bool
+pub(crate) fn is_granted(reply: &Reply) -> bool
     ensures { result ≡ grants (reply_of reply.now) }
 {
     matches!(reply, Reply::True)

@@ -11,6 +11,7 @@ mod beside;
 mod caller;
 mod calls;
 mod fault;
+mod fences;
 mod free_seat;
 mod holder;
 mod host;

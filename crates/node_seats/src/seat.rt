@@ -1,5 +1,6 @@
 //! Seats: from each, one caller calls one node.
 ghost use Rattle.std.specs.Prelude.{◌≡◌, [], true, false, OnOk, IfOk, IfErr, Err};
+ghost use Rattle.std.specs.Option.{ForSome};
 ghost use Rattle.shared_table.specs.Events.{knows_contact as knows};
 ghost use Rattle.shared_table.specs.declared.Event.TheVariants.{Exit, Leave, Call as Calls};
 ghost use Rattle.shared_table.specs.declared.WorldEvent.TheVariants.{At};
@@ -7,13 +8,16 @@ ghost use Rattle.shared_table.specs.declared.Effect.TheVariants.{Made, Left};
 ghost use Rattle.node_seats.specs.Seats.{sitting, Answered, Unanswered, Done, LooksUp};
 ghost use Rattle.node_seats.specs.Replies.{HasLeft};
 ghost use Rattle.node_seats.specs.declared.fault.SeatFault.TheVariants.{NoSuchNode};
-ghost use Rattle.node_seats.specs.Callers.{nodes_of, IsEnd};
+ghost use Rattle.node_seats.specs.Callers.{name_of, nodes_of, IsEnd};
 ghost use Rattle.node_seats.specs.Faults.{IsAskRefused, IsUnmade};
+ghost use Rattle.node_seats.specs.Fences.{HasGranted, fence_of};
 
+use crate::asking::Given;
 use crate::beside::{Beside, Nobody};
 use crate::caller::Caller;
 use crate::calls::copied_call;
 use crate::fault::SeatFault;
+use crate::fences::{fence_of, granted_after, sets_lock};
 use crate::notes::{KeptNotes, Notes};
 use crate::told::NodeStatus;
 use shared_table::{Call, Event, Reply, SeatEntry, Transcript, WorldEvent};
@@ -25,11 +29,14 @@ use term::{Name, Node, Pid};
 
 /// One caller's place at a node, with the transcript of what it was answered. It may go to another thread. Contracts see its
 /// number and its slot, its node and the inbox of that, the nodes of its cluster, the events that it has asked the node for, what it
-/// has seen of the node's table, and its transcript, whether that is kept or not.
+/// has seen of the node's table, by which step it was granted a lock last, and its transcript, whether that is kept or not.
 #[derive(Drop)]
 pub struct Seat<T: Notes = KeptNotes> {
     caller: Caller,
     notes: T,
+    /// The stamp of the step that granted it a lock last.
+    granted: Option<u64>,
+    ghost logged: { ForSome granted (λ stamp. HasGranted (name_of caller) stamp) },
 }
 
 impl<T: Notes> Model for Seat<T> {
@@ -37,7 +44,7 @@ impl<T: Notes> Model for Seat<T> {
 
     ghost Value = { Sitting };
 
-    ghost view = { λ s. sitting s.caller (T.noted s.notes) };
+    ghost view = { λ s. record (sitting s.caller (T.noted s.notes)) { granted = s.granted } };
 }
 
 /// The copy of a call, and room for its entry in these notes.
@@ -84,6 +91,7 @@ impl<T: Notes> Seat<T> {
         Seat {
             caller,
             notes: T::new(alloc),
+            granted: None,
         }
     }
 
@@ -135,10 +143,13 @@ impl<T: Notes> Seat<T> {
         ensures stranger { knows self.old.nodes (Calls call) ≡ false → result ≡ Err NoSuchNode }
         ensures known { IfErr result (λ fault. IsAskRefused fault (knows self.old.nodes (Calls call))) }
     {
+        let sets = sets_lock(&call);
         let noted = prepared(&mut self.notes, &self.caller, &call)?;
         let event = self.event(Event::Call(noted));
-        let answer = self.caller.call(rt, call, beside)?;
-        let reply = answer.reply.copy()?;
+        let given = self.caller.call(rt, call, beside)?;
+        let reply = given.answer.reply.copy()?;
+        self.granted = granted_after(sets, &given, self.granted);
+        let Given { answer, .. } = given;
         let answer = Some(answer);
         self.notes.put(SeatEntry { event, answer });
         Ok(reply)
@@ -193,6 +204,15 @@ impl<T: Notes> Seat<T> {
         Ok(())
     }
 
+    /// The number of the step that granted it a lock last: by `true` to a `set_lock`, as the node's log says. It is the stamp of the step
+    /// times eight, and the place of the node among the cluster's. `None`: it was granted none.
+    pub fn fence(&self) -> Option<u128>
+        ensures number { result ≡ fence_of self.now.nodes self.now.node self.now.granted }
+        ensures logged { ForSome self.now.granted (λ stamp. HasGranted self.now.node stamp) }
+    {
+        fence_of(self.caller.nodes(), self.caller.node(), self.granted)
+    }
+
     /// Why an event without a contact isn't asked for that there was no memory to make.
     pub(crate) fn unmade(&self) -> SeatFault
         ensures { IsUnmade result true }
@@ -222,7 +242,7 @@ impl Seat {
         ensures node { result.node ≡ self.node }
         ensures entries { result.entries.items ≡ self.entries }
     {
-        let Seat { caller, notes } = self;
+        let Seat { caller, notes, .. } = self;
         Transcript {
             seat: caller.place().seat,
             node: caller.node().copy(),

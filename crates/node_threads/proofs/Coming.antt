@@ -19,6 +19,7 @@ module _ {S : Type 0} (posts : S → ℕ → Item → S → Type 0) (refused : S
   comes_by_turn name a s r b t h came = record {
     nodes = came.nodes;
     cluster = came.cluster;
+    stamp = came.stamp;
     moves = suc came.moves;
     comes = (a, came.comes, inl (turn_of posts refused takes misses held a s r b t h));
   }
@@ -39,11 +40,12 @@ module _ {S : Type 0} (posts : S → ℕ → Item → S → Type 0) (refused : S
       at_end (inr missed) = inr missed.idles
 
 -- it begins with the core that its node opens with
-pub comes_first : (nodes cluster : List ℕ) (name : ℕ) (core : Held) (b : Looping) → b ≡ begun core
+pub comes_first : (nodes cluster : List ℕ) (name stamp : ℕ) (core : Held) (b : Looping) → b ≡ begun stamp core
     → core ≡ opening_core nodes cluster name → IsLoopOf name b
-comes_first nodes cluster name core b is opens = record {
+comes_first nodes cluster name stamp core b is opens = record {
   nodes = nodes;
   cluster = cluster;
+  stamp = stamp;
   moves = 0;
-  comes = is ∙ ap begun opens;
+  comes = is ∙ ap (begun stamp) opens;
 }

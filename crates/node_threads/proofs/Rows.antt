@@ -56,6 +56,7 @@ new_sitting caller place nodes inbox at into world asked seen = λ j. record {
   nodes = world j;
   asked = asked j;
   seen = seen j;
+  granted = None;
   entries = [];
 }
 

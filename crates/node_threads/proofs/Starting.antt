@@ -27,10 +27,10 @@ use Rattle.node_threads.proofs.Dealing.{deals_nothing}
 use Rattle.node_threads.proofs.Stopping.{named}
 
 -- nothing is owed to the readers of a node that took no step
-pub publishes_first : (nodes cluster : List ℕ) (a : Looping) (p : Progress) (name : ℕ) (core : Held) → a ≡ begun core
+pub publishes_first : (nodes cluster : List ℕ) (a : Looping) (p : Progress) (name stamp : ℕ) (core : Held) → a ≡ begun stamp core
     → core ≡ opening_core nodes cluster name → core.name ≡ name → p ≡ record { node = name; editions = []; waiting = []; length = 0 }
     → Publishes a p
-publishes_first nodes cluster a p name core is opens named first =
+publishes_first nodes cluster a p name stamp core is opens named first =
     subst (λ (q : Progress). Publishes a q) (sym first) (subst (λ (x : Looping). Publishes x none) (sym is) (
       sym named,
       record {

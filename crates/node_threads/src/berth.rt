@@ -108,7 +108,7 @@ where
             shared.yields,
             readers,
         )?;
-        let node = NodeLoop::new(alloc, opening.core(alloc, node))?;
+        let node = NodeLoop::new(alloc, opening.core(alloc, node), shared.stamp)?;
         Ok(Berth {
             address,
             caller,

@@ -102,7 +102,7 @@ where
     /// Starts a thread for each node: those of `cluster` are joined with each other, and each of `lone` stands for itself. It is
     /// refused as `World::start` is, in the same order; `Memory` also where a thread can't be had. The gate is held before each
     /// turn of a node. A thread that finds nothing to do yields `yields` times at most, and for 200 microseconds or so, before it
-    /// sleeps.
+    /// sleeps. The steps of all nodes have stamps above `stamp`.
     pub fn start<R>(
         rt: &R,
         alloc: Global,
@@ -110,6 +110,7 @@ where
         lone: &[NodeName],
         gate: G,
         yields: u32,
+        stamp: u64,
     ) -> Result<Self, StartFault>
     where
         R: Threads + Wait + Clock + Drop + Copy + Send + 'static,
@@ -122,7 +123,7 @@ where
         ensures err { IfErr result (λ fault. start_refused cluster.now lone.now ≡ start_fault_of fault) }
     {
         let opening = Opening::of(cluster, lone)?;
-        Ok(Self::opened(rt, alloc, &opening, cluster, lone, gate, yields)?)
+        Ok(Self::opened(rt, alloc, &opening, cluster, lone, gate, yields, stamp)?)
     }
 
     /// The cluster of a world that opens so.
@@ -134,6 +135,7 @@ where
         lone: &[NodeName],
         gate: G,
         yields: u32,
+        stamp: u64,
     ) -> Result<Self, AllocError>
     where
         R: Threads + Wait + Clock + Drop + Copy + Send + 'static,
@@ -145,7 +147,7 @@ where
         ensures crew { IfOk result (λ made. IsCrew cluster.now lone.now made.crew) }
         ensures seats { IfOk result (λ made. made.seating ≡ no_seats) }
     {
-        let shared = Shared::new(alloc, opening.nodes(), gate, yields)?;
+        let shared = Shared::new(alloc, opening.nodes(), gate, yields, stamp)?;
         let joined = copied(alloc, cluster)?;
         let others = copied(alloc, lone)?;
         let berths = berths_of(rt, alloc, &shared, opening, cluster, lone)?;

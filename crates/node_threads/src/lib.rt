@@ -17,7 +17,7 @@
 //!     Ok([first.into_transcript(), last.into_transcript()])
 //! }
 //!
-//! let mut three = Three::start(&rt, rt.alloc(), &nodes, &[], OpenGate, 500)?;
+//! let mut three = Three::start(&rt, rt.alloc(), &nodes, &[], OpenGate, 500, 0)?;
 //! let closed = match play(&rt, &mut three, &nodes, &name) {
 //!     Ok(transcripts) => three.close(&rt, &transcripts),
 //!     Err(_) => three.close(&rt, &[]),

@@ -8,13 +8,15 @@ use std::alloc::{AllocError, Global};
 use std::sync::Arc;
 use term::NodeSet;
 
-/// The gate and the hub of a cluster, and how long its threads watch before they sleep.
+/// The gate and the hub of a cluster, how long its threads watch before they sleep, and where the stamps of its nodes begin.
 #[derive(Drop)]
 pub(crate) struct Shared<G: Gate + Drop> {
     pub(crate) gate: Arc<G, Global>,
     pub(crate) hub: Arc<Hub, Global>,
     /// How often a thread, or a caller, yields at most before it sleeps.
     pub(crate) yields: u32,
+    /// The steps of its nodes have stamps above this one.
+    pub(crate) stamp: u64,
 }
 
 impl<G: Gate + Drop> Shared<G> {
@@ -24,11 +26,17 @@ impl<G: Gate + Drop> Shared<G> {
         nodes: &NodeSet,
         gate: G,
         yields: u32,
+        stamp: u64,
     ) -> Result<Self, AllocError>
         ensures { IfOk result (λ shared. nodes_at shared.hub.value ≡ nodes.now) }
     {
         let gate = Arc::new(alloc, gate)?;
         let hub = Arc::new(alloc, Hub::new(alloc, nodes)?)?;
-        Ok(Shared { gate, hub, yields })
+        Ok(Shared {
+            gate,
+            hub,
+            yields,
+            stamp,
+        })
     }
 }

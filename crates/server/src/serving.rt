@@ -123,7 +123,7 @@ where
     requires { start_refused cluster.now lone.now ≡ None }
     ensures { ServesCluster cluster.now lone.now consoles (W.contents writer.old) (W.contents writer.new) result }
 {
-    let Ok(mut running) = Cluster::start(rt, alloc, cluster, lone, OpenGate, YIELDS) else {
+    let Ok(mut running) = Cluster::start(rt, alloc, cluster, lone, OpenGate, YIELDS, 0) else {
         return Err(ServeFault::Memory);
     };
     let door = Door {

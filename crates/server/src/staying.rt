@@ -10,6 +10,7 @@ mod first_line;
 mod hall;
 mod lookout;
 mod memory;
+mod moment;
 mod notes;
 mod office;
 mod options;
@@ -25,6 +26,7 @@ use crate::staying::descriptors::shortage;
 use crate::staying::desk::{StayingCluster, stay, tell_if};
 pub use crate::staying::lookout::{Lookout, Spent};
 use crate::staying::memory::resident;
+use crate::staying::moment::microseconds;
 pub use crate::staying::options::StayOptions;
 use crate::staying::staff::Staff;
 use node_threads::OpenGate;
@@ -107,8 +109,8 @@ where
 /// joined with each other, and each of `lone` stands for itself. As many consoles are attached at once as the options say, and others are told
 /// `error too_many_consoles`; with none at all nobody can ask for the end. A connection counts for none of them before its first line has let
 /// it in: sixteen more are served at once, each in a thread of its own. Each console has a seat while it lasts, behind a first line that shows
-/// the cookie, if there is one. The nodes keep none of their steps. A connection that couldn't be taken ends nothing. What happens is told on
-/// `errors`, whose faults are passed over.
+/// the cookie, if there is one. The nodes keep none of their steps, whose stamps begin with the microseconds of the system's clock at the start.
+/// A connection that couldn't be taken ends nothing. What happens is told on `errors`, whose faults are passed over.
 ///
 /// Once all its threads are there it is told for how many consoles the descriptors serve, if they are too few, and the line `listening` is
 /// written. At the end connections are ended, calls that wait are answered `closed`,
@@ -133,7 +135,9 @@ where
     requires { start_refused cluster.now lone.now ≡ None }
     ensures { StaysCluster cluster.now lone.now listening.now (W.contents writer.old) (W.contents writer.new) result }
 {
-    let Ok(running) = StayingCluster::start(rt, alloc, cluster, lone, OpenGate, YIELDS) else {
+    let begin = microseconds(rt);
+    let Ok(running) = StayingCluster::start(rt, alloc, cluster, lone, OpenGate, YIELDS, begin)
+    else {
         return Err(StayFault::Start);
     };
     let nodes = set_of_all(cluster, lone);

@@ -12,8 +12,8 @@ use Rattle.shared_table.specs.Editions.{IsShown}
 -- each node shows this before its first step
 pub opening_shown : (node : ℕ) → IsShown (opening node)
 opening_shown node = ∣ record {
-  node = begun (opening_core [] [] node);
-  came = record { nodes = []; cluster = []; moves = 0; comes = refl };
+  node = begun 0 (opening_core [] [] node);
+  came = record { nodes = []; cluster = []; stamp = 0; moves = 0; comes = refl };
   shows = refl;
 } ∣₁
 
@@ -25,6 +25,7 @@ pub comes_on : (name : ℕ) (a b : Looping) → IsLoopOf name a → HandsOver a 
 comes_on name a b came h = record {
   nodes = came.nodes;
   cluster = came.cluster;
+  stamp = came.stamp;
   moves = suc came.moves;
   comes = (a, came.comes, inr (inr h));
 }

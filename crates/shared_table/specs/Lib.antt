@@ -1,3 +1,4 @@
+pub use Rattle.node_loop.specs.Answers
 pub use Rattle.node_loop.specs.Coming
 pub use Rattle.node_loop.specs.Events
 pub use Rattle.node_loop.specs.Held

@@ -59,7 +59,7 @@ fn ends<R: Threads + Wait + Clock + Drop + Copy + Send + 'static>(
     process: &Pid,
     name: &Name,
 ) -> bool {
-    match Forgetful::start(rt, alloc, nodes, &[], OpenGate, 500) {
+    match Forgetful::start(rt, alloc, nodes, &[], OpenGate, 500, 0) {
         Ok(mut cluster) => {
             let fine = plays(rt, &mut cluster, process, name);
             is_met(cluster.end(rt), process, name) && fine

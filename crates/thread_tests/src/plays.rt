@@ -179,7 +179,7 @@ where
     let (joined, lone) = (names_of(play.nodes), names_of(play.scene.lone()));
     match (joined.as_slice().first(), Latch::of(door)) {
         (Some(node), Some(latch)) => {
-            match Small::start(rt, alloc, joined.as_slice(), lone.as_slice(), latch, 0) {
+            match Small::start(rt, alloc, joined.as_slice(), lone.as_slice(), latch, 0, 0) {
                 Ok(cluster) => closes(rt, alloc, cluster, node, play, cast, door),
                 Err(_) => false,
             }

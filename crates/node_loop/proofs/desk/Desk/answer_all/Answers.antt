@@ -8,4 +8,4 @@ pub returns-in_err-answer-clause-begun : goal.returns-in_err-answer-clause-begun
 returns-in_err-answer-clause-begun c =
     where_refused c.from_residual.result
     (begins_as _ _ _ _ c.in_err-answer.ensures.unchanged (ap (λ (k : Kept). k.replies) c.loop-answer.invariant)
-    (grows c.args.own (map answer_of (drop c.loop-answer.answer-index c.args.answers.now)) c.loop-answer.self))
+    (grows c.args.stamp c.args.own (map answer_of (drop c.loop-answer.answer-index c.args.answers.now)) c.loop-answer.self))

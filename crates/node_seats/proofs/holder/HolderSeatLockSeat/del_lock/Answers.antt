@@ -6,7 +6,7 @@ use Rattle.shared_table.specs.declared.Call.{Call}
 use Rattle.shared_table.specs.declared.Call.TheVariants.{DelLock}
 use Rattle.shared_table.specs.NodeEventsSeen.{reply_of}
 use Rattle.node_seats.specs.Seats.{Answered}
-use Rattle.node_seats.specs.Holders.{grants}
+use Rattle.node_seats.specs.Fences.{grants}
 use Rattle.node_seats.proofs.Holders.{deleted_more}
 use Rattle.node_seats.proofs.holder.HolderSeatLockSeat.del_lock.Goals as goal
 
@@ -20,7 +20,7 @@ returns g c =
     let answered : Answered (DelLock c.args.self.now.holder c.args.id.now c.args.nodes.now) c.in_ok-call.field-0 c.args.self.now.seat.now c.call.new.self =
     subst (λ (k : Call). Answered k c.in_ok-call.field-0 c.args.self.now.seat.now c.call.new.self) call c.in_ok-call.ensures.ok in (
       record {
-        replies = deleted_more c.args.self.now.holder c.args.self.now.seat.now c.call.new.self c.args.id.now c.args.nodes.now answered.answer answered.kept;
+        replies = deleted_more c.args.self.now.holder c.args.self.now.seat.now c.call.new.self c.args.id.now c.args.nodes.now answered.stamp answered.answer answered.kept;
         holder = refl;
         same_seat = refl;
       },
@@ -28,6 +28,7 @@ returns g c =
         grants (reply_of answered.answer.reply),
         record {
           answer = answered.answer;
+          stamp = answered.stamp;
           told = answered.told;
           says = refl;
           kept = answered.kept;

@@ -6,7 +6,7 @@ use Rattle.shared_table.specs.declared.Call.{Call}
 use Rattle.shared_table.specs.declared.Call.TheVariants.{SetLock}
 use Rattle.shared_table.specs.NodeEventsSeen.{reply_of}
 use Rattle.node_seats.specs.Seats.{Answered}
-use Rattle.node_seats.specs.Holders.{grants}
+use Rattle.node_seats.specs.Fences.{grants}
 use Rattle.node_seats.proofs.Holders.{set_more}
 use Rattle.node_seats.proofs.holder.HolderSeatLockSeat.set_lock.Goals as goal
 
@@ -21,12 +21,13 @@ returns g c =
     subst (λ (k : Call). Answered k c.in_ok-reply.reply c.args.self.now.seat.now c.call.new.self) call c.in_ok-reply.ensures.ok in
     let granted : grants (reply_of answered.answer.reply) ≡ c.is_granted.result = ap grants answered.says ∙ sym c.is_granted.ensures in (
       record {
-        replies = set_more c.args.self.now.holder c.args.self.now.seat.now c.call.new.self c.args.id.now c.args.nodes.now answered.answer c.args.retries c.is_granted.result answered.kept granted;
+        replies = set_more c.args.self.now.holder c.args.self.now.seat.now c.call.new.self c.args.id.now c.args.nodes.now answered.stamp answered.answer c.args.retries c.is_granted.result answered.kept granted;
         holder = refl;
         same_seat = refl;
       },
       record {
         answer = answered.answer;
+        stamp = answered.stamp;
         told = answered.told;
         says = granted;
         kept = answered.kept;

@@ -9,10 +9,10 @@ use Rattle.node_seats.proofs.seat.Seat.exit.Goals as goal
 
 pub returns-clause-ok : goal.returns-clause-ok
 returns-clause-ok g c = record {
-  told = answered_so c.self.inside.caller (g.T.Notes.noted c.self.inside.notes) c.args.self.now c.self.view_is c.exit.new.self
-      (g.T.Notes.noted c.put.new.self) (Ok Made)
+  told = answered_so c.self.inside.caller (g.T.Notes.noted c.self.inside.notes) c.self.inside.granted c.args.self.now c.self.view_is c.exit.new.self
+      (g.T.Notes.noted c.put.new.self) c.self.inside.granted (Ok Made)
       c.in_ok-exit.ensures.node c.in_ok-exit.ensures.told c.in_ok-exit.ensures.learns;
-  kept = grown c.self.inside.caller (g.T.Notes.noted c.self.inside.notes) c.args.self.now c.self.view_is c.exit.new.self
+  kept = grown c.self.inside.caller (g.T.Notes.noted c.self.inside.notes) c.self.inside.granted c.args.self.now c.self.view_is c.exit.new.self
       (g.T.Notes.noted c.put.new.self) (Exit c.args.process.now) c.event-event.result None c.in_ok-exit.ensures.place
       c.in_ok-exit.ensures.inbox c.in_ok-exit.ensures.nodes c.in_ok-exit.ensures.asked
       (c.event-event.ensures ∙ ap (λ (n : ℕ). At n (Exit c.copy.result)) c.in_ok-exit.ensures.node

@@ -8,10 +8,10 @@ use Rattle.node_seats.proofs.seat.Seat.leave.Goals as goal
 
 pub returns-clause-ok : goal.returns-clause-ok
 returns-clause-ok g c = record {
-  told = answered_so c.self.inside.caller (g.T.Notes.noted c.self.inside.notes) c.args.self.now c.self.view_is c.leave.new.self
-      (g.T.Notes.noted c.put.new.self) (Ok Left)
+  told = answered_so c.self.inside.caller (g.T.Notes.noted c.self.inside.notes) c.self.inside.granted c.args.self.now c.self.view_is c.leave.new.self
+      (g.T.Notes.noted c.put.new.self) c.self.inside.granted (Ok Left)
       c.in_ok-leave.ensures.node c.in_ok-leave.ensures.told c.in_ok-leave.ensures.learns;
-  kept = grown c.self.inside.caller (g.T.Notes.noted c.self.inside.notes) c.args.self.now c.self.view_is c.leave.new.self
+  kept = grown c.self.inside.caller (g.T.Notes.noted c.self.inside.notes) c.self.inside.granted c.args.self.now c.self.view_is c.leave.new.self
       (g.T.Notes.noted c.put.new.self) Leave c.event-event.result None c.in_ok-leave.ensures.place c.in_ok-leave.ensures.inbox
       c.in_ok-leave.ensures.nodes c.in_ok-leave.ensures.asked
       (c.event-event.ensures ∙ ap (λ (n : ℕ). At n Leave) c.in_ok-leave.ensures.node)

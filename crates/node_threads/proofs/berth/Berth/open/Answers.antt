@@ -20,7 +20,7 @@ invariant_of-result g c =
         node = at ∙ sym named;
         room = sym (ap (λ (a : Reached Item). a.room) c.in_ok-address.ensures.address);
         came = subst (λ (n : ℕ). IsLoopOf n c.in_ok-node.node) (sym at)
-            (comes_first c.args.opening.now.nodes c.args.opening.now.cluster c.args.node.now c.core.result c.in_ok-node.node
+            (comes_first c.args.opening.now.nodes c.args.opening.now.cluster c.args.node.now c.args.shared.now.stamp c.core.result c.in_ok-node.node
             c.in_ok-node.ensures.new c.core.ensures.opens);
         sound = subst (λ (h : Held). BeginsSound h c.in_ok-node.node) (sym (ap (λ (l : Looping). l.core) c.in_ok-node.ensures.new))
             c.in_ok-node.ensures.sound;
@@ -29,5 +29,5 @@ invariant_of-result g c =
       },
       c.in_ok-address.ensures.inbox,
       publishes_first c.args.opening.now.nodes c.args.opening.now.cluster c.in_ok-node.node c.in_ok-publisher.publisher.publisher c.args.node.now
-          c.core.result c.in_ok-node.ensures.new c.core.ensures.opens c.core.ensures.name c.in_ok-publisher.ensures,
+          c.args.shared.now.stamp c.core.result c.in_ok-node.ensures.new c.core.ensures.opens c.core.ensures.name c.in_ok-publisher.ensures,
     )
