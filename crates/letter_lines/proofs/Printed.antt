@@ -8,8 +8,9 @@ use Rattle.term.specs.declared.lock_id.LockId.{LockId}
 use Rattle.term.specs.declared.rule.Rule.{Rule as ARule}
 use Rattle.term.specs.Rules.{rule_of}
 use Rattle.term.specs.Spelling.{SpellsText, SpellsNode}
+use Rattle.letter_lines.specs.declared.part.Part.{Part}
 use Rattle.letter_lines.specs.declared.part.Part.TheVariants.{Pair, Put, Remove, Kill, Notice, Member, Told, SetLock, LockAnswer, GiveBack, GivenBack, ReleaseOf, Apply, Admit}
-use Rattle.letter_lines.specs.Grammar.{TextReads, pair_for, granted_text, ack_text}
+use Rattle.letter_lines.specs.Grammar.{AllSpelled, TextReads, Name, Pid, Rule, pair_for, granted_text, ack_text}
 use Rattle.letter_lines.specs.Lines.{IsLine, LineOfPair, LineOfLock, LineOfLockWith, LineOfNotice, SpellsOther}
 use Rattle.letter_lines.specs.Processes.{SpellsProcess}
 use Rattle.letter_lines.proofs.Written.{line_reads}
@@ -60,66 +61,34 @@ remove_reads x line h =
 same_pair : (e : APair) (r : ARule) → e.rule ≡ rule_of r → e ≡ pair_for e.name e.owner r
 same_pair e r same = λ i. record { name = e.name; owner = e.owner; rule = same i }
 
+-- what is made of a pair is spelled by the texts of its name, its owner and its rule
+spelled_pair : (e : APair) (word line : List ℕ) (make : APair → Part) (h : LineOfPair word e line)
+    → AllSpelled (Name ∷ Pid ∷ Rule ∷ []) (λ x p r. make (pair_for x p r)) (h.name ∷ h.owner ∷ h.text ∷ []) (Ok (make e))
+spelled_pair e word line make h = (
+  e.name,
+  h.name_spelled,
+  (
+    e.owner,
+    h.owner_spelled,
+    (h.rule, h.rule_spelled, ap (λ (z : APair). Ok (make z)) (same_pair e h.rule h.same)),
+  ),
+)
+
 -- lines of a pair
 pub pair_reads : (e : APair) (line : List ℕ) → LineOfPair (codes "+pair") e line → TextReads line (Ok (Pair e))
 pair_reads e line h =
     line_reads (codes "+pair" ∷ h.name ∷ h.owner ∷ h.text ∷ []) line (Pair e) h.is
-    (inl (
-      tt,
-      inl (
-        e.name,
-        h.name_spelled,
-        (
-          e.owner,
-          h.owner_spelled,
-          (
-            h.rule,
-            h.rule_spelled,
-            ap (λ (z : APair). Ok (Pair z)) (same_pair e h.rule h.same),
-          ),
-        ),
-      ),
-    ))
+    (inl (tt, inl (spelled_pair e (codes "+pair") line Pair h)))
 
 pub item_put_reads : (e : APair) (line : List ℕ) → LineOfPair (codes "+put") e line → TextReads line (Ok (Put e))
 item_put_reads e line h =
     line_reads (codes "+put" ∷ h.name ∷ h.owner ∷ h.text ∷ []) line (Put e) h.is
-    (inl (
-      tt,
-      inl (
-        e.name,
-        h.name_spelled,
-        (
-          e.owner,
-          h.owner_spelled,
-          (
-            h.rule,
-            h.rule_spelled,
-            ap (λ (z : APair). Ok (Put z)) (same_pair e h.rule h.same),
-          ),
-        ),
-      ),
-    ))
+    (inl (tt, inl (spelled_pair e (codes "+put") line Put h)))
 
 pub put_reads : (e : APair) (line : List ℕ) → LineOfPair (codes "put") e line → TextReads line (Ok (Apply (change.Put e)))
 put_reads e line h =
     line_reads (codes "put" ∷ h.name ∷ h.owner ∷ h.text ∷ []) line (Apply (change.Put e)) h.is
-    (inl (
-      tt,
-      inl (
-        e.name,
-        h.name_spelled,
-        (
-          e.owner,
-          h.owner_spelled,
-          (
-            h.rule,
-            h.rule_spelled,
-            ap (λ (z : APair). Ok (Apply (change.Put z))) (same_pair e h.rule h.same),
-          ),
-        ),
-      ),
-    ))
+    (inl (tt, inl (spelled_pair e (codes "put") line (λ z. Apply (change.Put z)) h)))
 
 -- lines of a lock
 pub ask_reads : (id : LockId) (p : Process) (line : List ℕ) → LineOfLock (codes "ask") id p line

@@ -1,0 +1,70 @@
+-- What an end does with a line that is read.
+use Rattle.std.specs.Prelude.{ℕ, Bool, true, false, ◌≡◌, ◌⊎◌, Option, Some, None, Result, Ok, Err, [], ◌∷◌, ◌++◌, slice_set}
+use Rattle.node_events.specs.declared.events.Letter.{Letter}
+use Rattle.node_events.specs.declared.events.Letter.TheVariants.{Down}
+use Rattle.letter_lines.specs.declared.faults.LetterFault.TheVariants.{Memory}
+use Rattle.letter_lines.specs.Gathered.{nothing}
+use Rattle.node_loop.specs.declared.item.Stamped.{Stamped}
+use Rattle.wire_end.specs.declared.faults.HearFault.{HearFault}
+use Rattle.wire_end.specs.declared.faults.HearFault.TheVariants.{NoSuchNode, Part}
+use Rattle.wire_end.specs.declared.line.LinkLine.{LinkLine}
+use Rattle.wire_end.specs.declared.wire.Wire.{Wire}
+use Rattle.wire_end.specs.declared.wire_end.Wiring.{Wiring}
+use Rattle.wire_end.specs.Links.{HearsPart}
+use Rattle.wire_end.specs.Orders.{orders_of}
+use Rattle.wire_end.specs.Wirings.{place, wire_at}
+
+-- a letter of this node waits behind the others
+abbrev pub laid : ℕ → Stamped → Wiring → Wiring
+laid from l s = record s { heard = s.heard ++ (from, l) ∷ []; orders = s.orders ++ orders_of s.node l.letter }
+
+-- where a letter is whole now, it waits with the stamp of the line
+abbrev pub laid_if : ℕ → ℕ → Option Letter → Wiring → Wiring
+laid_if from stamp None s = s
+laid_if from stamp (Some letter) s = laid from (record { stamp = stamp; letter = letter }) s
+
+-- the line is the next of the link at this place, and is read behind the others
+pub record IsHeard (from : ℕ) (line : LinkLine) (k : ℕ) (s t : Wiring) : Type 0 where
+  pub letter : Option Letter
+  pub wire : Wire
+  pub hears : HearsPart line.number line.part (wire_at k s.wires) wire (Ok letter)
+  pub rest : t ≡ laid_if from line.stamp letter (record s { wires = slice_set s.wires k wire; read = s.read ++ (from, line) ∷ [] })
+
+-- what comes of a line that is taken
+abbrev pub HearsAt : Option ℕ → ℕ → LinkLine → Wiring → Wiring → Type 0
+HearsAt None from line s t = ⊥
+HearsAt (Some k) from line s t = IsHeard from line k s t
+
+-- why a line isn't taken: there is no such link; or it isn't the next of it, or its part isn't taken. Nothing changed then, unless memory
+-- was refused
+abbrev pub RefusesAt : Option ℕ → LinkLine → HearFault → Wiring → Wiring → Type 0
+RefusesAt None line fault s t = (fault ≡ NoSuchNode) × (t ≡ s)
+RefusesAt (Some k) line fault s t =
+    (fault ≡ Part Memory) ⊎ (HearsPart line.number line.part (wire_at k s.wires) (wire_at k s.wires) (Err fault) × (t ≡ s))
+
+-- what comes of a line of this node
+abbrev pub Hears : ℕ → LinkLine → Result (Unit {0}) HearFault → Wiring → Wiring → Type 0
+Hears from line (Ok _) s t = HearsAt (place from s.wires) from line s t
+Hears from line (Err fault) s t = RefusesAt (place from s.wires) line fault s t
+
+-- the link has ended without a word: what came of a letter is forgotten
+abbrev pub closed : Wire → Wire
+closed w = record w { parts = nothing; is_down = true }
+
+-- that a node is gone without a word is read as this letter of it
+abbrev pub gone : Stamped
+gone = record { stamp = 0; letter = Down }
+
+-- that waits behind all that came of it, unless it was told before
+abbrev pub lost_where : Bool → ℕ → ℕ → Wiring → Wiring
+lost_where true n k s = s
+lost_where false n k s = laid n gone (record s { wires = slice_set s.wires k (closed (wire_at k s.wires)) })
+
+-- what comes of the word that a node is gone: nothing where it has left already
+abbrev pub LosesAt : Option ℕ → ℕ → Result (Unit {0}) HearFault → Wiring → Wiring → Type 0
+LosesAt None n r s t = (r ≡ Err NoSuchNode) × (t ≡ s)
+LosesAt (Some k) n (Ok _) s t = t ≡ lost_where (wire_at k s.wires).is_down n k s
+LosesAt (Some k) n (Err fault) s t = fault ≡ Part Memory
+
+abbrev pub Loses : ℕ → Result (Unit {0}) HearFault → Wiring → Wiring → Type 0
+Loses n r s t = LosesAt (place n s.wires) n r s t

@@ -1,0 +1,8 @@
+pub use Rattle.node_loop.specs.Dealings as LoopDealings
+pub mod Sending
+pub mod Orders
+pub mod Links
+pub mod Wirings
+pub mod Hearing
+pub mod Dealings
+pub mod Order

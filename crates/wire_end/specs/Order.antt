@@ -1,0 +1,94 @@
+-- The order of an end's lines: of each other node, what its lines spell is what was taken of it and what waits; and what is printed is the
+-- lines of the letters that were sent to others.
+use Rattle.std.specs.Prelude.{ℕ, false, ◌≡◌, ◌⊎◌, ◌==◌, ◌+◌, Option, Some, None, Ok, List, [], ◌∷◌, ◌++◌, map, length, if◌then◌else◌}
+use Rattle.std.specs.List.{sum_by}
+use Rattle.protocol_model.specs.Letter.{Letter as AnyLetter}
+use Rattle.letter_lines.specs.Gathered.{Gathered, Taken, taken, nothing}
+use Rattle.node_events.specs.Letters.{letter_of}
+use Rattle.letter_lines.specs.Parts.{parts_of}
+use Rattle.node_loop.specs.Alone.{Stamped as StampedLetter}
+use Rattle.node_loop.specs.declared.item.Item.{Item}
+use Rattle.node_loop.specs.declared.item.Stamped.{Stamped}
+use Rattle.wire_end.specs.declared.line.LinkLine.{LinkLine}
+use Rattle.wire_end.specs.declared.wire.Wire.{Wire}
+use Rattle.wire_end.specs.declared.wire_end.Wiring.{Wiring}
+use Rattle.wire_end.specs.Dealings.{of_node}
+use Rattle.wire_end.specs.Hearing.{Hears, Loses, gone}
+use Rattle.wire_end.specs.Sending.{letter_text}
+use Rattle.wire_end.specs.Wirings.{link_with, begun, Posts, Takes}
+
+-- lines are numbered from this one on, without a gap
+abbrev pub AreNumbered : ℕ → List LinkLine → Type 0
+AreNumbered n [] = Unit {0}
+AreNumbered n (l ∷ ls) = (l.number ≡ n) × AreNumbered (n + 1) ls
+
+-- a letter as the protocol has it, with its stamp
+abbrev pub seen : Stamped → StampedLetter
+seen l = record { stamp = l.stamp; letter = letter_of l.letter }
+
+-- the letter that a line ends, if it ends one, has the stamp of that line
+abbrev pub ended_by : ℕ → Option AnyLetter → List StampedLetter
+ended_by stamp None = []
+ended_by stamp (Some l) = record { stamp = stamp; letter = l } ∷ []
+
+-- what is gathered, and the letters, behind a line whose part was taken, and what comes of the others
+abbrev pub onward : Taken → ℕ → List StampedLetter → (Gathered → List StampedLetter → Option (Gathered × List StampedLetter))
+    → Option (Gathered × List StampedLetter)
+onward None stamp ls more = None
+onward (Some t) stamp ls more = more t.0 (ls ++ ended_by stamp t.1)
+
+-- what lines spell behind these items and letters: the items of a letter that isn't whole, and all letters; none where a line has no part of one
+abbrev pub spelled_on : List LinkLine → Gathered → List StampedLetter → Option (Gathered × List StampedLetter)
+spelled_on [] g ls = Some (g, ls)
+spelled_on (l ∷ more) g ls = onward (taken l.part g) l.stamp ls (spelled_on more)
+
+-- the same from the beginning
+abbrev pub spelled_by : List LinkLine → Option (Gathered × List StampedLetter)
+spelled_by lines = spelled_on lines nothing []
+
+-- The lines that were read on a link are numbered from 1 on. What they spell is what came of the other node, and behind it, where the node
+-- was said to be gone, that it has left
+pub record Spells (w : Wire) (lines : List LinkLine) (came : List Stamped) : Type 0 where
+  pub numbered : AreNumbered 1 lines
+  pub count : w.read ≡ length lines
+  pub items : Gathered
+  pub letters : List StampedLetter
+  pub spelled : spelled_by lines ≡ Some (items, letters)
+  pub last : List StampedLetter
+  pub word : (last ≡ []) ⊎ (last ≡ seen gone ∷ [])
+  pub came_is : map seen came ≡ letters ++ last
+  pub goes_on : w.is_down ≡ false → (last ≡ []) × (items ≡ w.parts)
+
+-- how many lines the letters to this node have
+abbrev pub lines_to : ℕ → List (ℕ × Stamped) → ℕ
+lines_to t sent = sum_by (λ l. length (parts_of l.letter)) (of_node t sent)
+
+-- the lines of a letter that is sent behind these, numbered behind theirs; one of the node to itself has none
+abbrev pub text_behind : ℕ → List (ℕ × Stamped) → ℕ × Stamped → List ℕ
+text_behind node before x = if x.0 == node then [] else letter_text x.0 (lines_to x.0 before) x.1
+
+-- the lines of letters that are sent behind these
+abbrev pub texts_behind : ℕ → List (ℕ × Stamped) → List (ℕ × Stamped) → List ℕ
+texts_behind node before [] = []
+texts_behind node before (x ∷ xs) = text_behind node before x ++ texts_behind node (before ++ x ∷ []) xs
+
+-- what waits, and what was taken of a node
+abbrev pub came_of : ℕ → Wiring → List Stamped
+came_of f s = of_node f s.taken ++ of_node f s.heard
+
+-- All is in order, where this was printed: each link spells what came of its node, and what was printed, and is to be, is the lines of the
+-- letters that were sent to others
+pub record InOrder (gone_out : List ℕ) (s : Wiring) : Type 0 where
+  pub read : (f : ℕ) → (f ≡ s.node → ⊥) → Spells (link_with f s.wires) (of_node f s.read) (came_of f s)
+  pub counted : (t : ℕ) → (t ≡ s.node → ⊥) → (link_with t s.wires).written ≡ lines_to t s.sent
+  pub sent : gone_out ++ s.lines ≡ texts_behind s.node [] s.sent
+
+-- an end begins in order, and stays so, whatever it sends, takes, reads or prints
+pub record StayInOrder : Type 0 where
+  pub begins : (node : ℕ) (world : List ℕ) → InOrder [] (begun node world)
+  pub sends : (out : List ℕ) (s : Wiring) (to : ℕ) (i : Item) (t : Wiring) → InOrder out s → Posts s to i t → InOrder out t
+  pub gives : (out : List ℕ) (s : Wiring) (from : ℕ) (i : Item) (t : Wiring) → InOrder out s → Takes s from i t → InOrder out t
+  pub hears : (out : List ℕ) (s : Wiring) (from : ℕ) (line : LinkLine) (t : Wiring) → InOrder out s
+      → Hears from line (Ok tt) s t → InOrder out t
+  pub loses : (out : List ℕ) (s : Wiring) (n : ℕ) (t : Wiring) → InOrder out s → Loses n (Ok tt) s t → InOrder out t
+  pub prints : (out : List ℕ) (s : Wiring) → InOrder out s → InOrder (out ++ s.lines) (record s { lines = [] })

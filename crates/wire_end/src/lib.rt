@@ -1,0 +1,15 @@
+//! A node's end of lines: its letters come in as numbered lines, and go out as such.
+#![tactic(auto)]
+
+mod faults;
+mod laws;
+mod line;
+mod orders;
+mod sending;
+mod wire;
+mod wire_end;
+
+pub use faults::HearFault;
+pub use laws::{ends_deal, ends_stay_in_order};
+pub use line::LinkLine;
+pub use wire_end::{WireEnd, Wiring};
