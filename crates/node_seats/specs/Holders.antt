@@ -1,5 +1,5 @@
 -- The seat of a lock holder, as its transcript has its lock calls.
-use Rattle.std.specs.Prelude.{Bool, true, false, ◌≡◌, Option, Some, None, List, [], ◌∷◌, ◌++◌, Result, Ok, Err, if◌then◌else◌}
+use Rattle.std.specs.Prelude.{ℕ, Bool, ◌≡◌, Option, Some, None, List, [], ◌∷◌, ◌++◌, Result, Ok, Err, if◌then◌else◌}
 use Rattle.registry_model.specs.Process.{Process, is_process}
 use Rattle.shared_table.specs.declared.Answer.{Answer}
 use Rattle.shared_table.specs.declared.Call.{Call}
