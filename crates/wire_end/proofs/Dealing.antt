@@ -2,7 +2,7 @@
 use Rattle.std.proofs.Common.{ℕ, Bool, true, false, zero, suc, ◌≡◌, ◌==◌, inl, inr, Option, Some, None, List, [], ◌∷◌, ◌++◌, map, length, set, refl, sym, ap, ◌∙◌}
 use Rattle.std.specs.Prelude.{if◌then◌else◌, ◌&&◌, ◌+◌}
 use Rattle.std.specs.List.{list_all}
-use Rattle.std.proofs.lemmas.Bool.{eqb-true}
+use Rattle.std.proofs.lemmas.Bool.{and_from, and_parts, eqb-true}
 use Rattle.std.proofs.lemmas.List.{map-append}
 use Rattle.std.proofs.Math.Path.{fun_ext}
 use Rattle.registry_model.specs.Process.{at}
@@ -17,7 +17,6 @@ use Rattle.wire_end.specs.declared.wire.Wire.{Wire}
 use Rattle.wire_end.specs.declared.wire_end.Wiring.{Wiring}
 use Rattle.wire_end.specs.Wirings.{place, wire_at, with_lines_at, kept, printed, posted, Posts, Takes}
 use Rattle.wire_end.specs.Dealings.{of_node, dealt_of, leads_inside}
-use Rattle.wire_end.proofs.Both.{both}
 use Rattle.wire_end.proofs.Ordering.{more-of}
 
 -- what was dealt of each node, behind one letter more
@@ -90,15 +89,12 @@ takes_more s from l =
 -- the parts of what leads inside
 module _ (o : Opening) (s : Wiring) (here : leads_inside o s ≡ true) where
   own : in_world o s.node ≡ true
-  own = (both (in_world o s.node) (list_all (λ w. in_world o w.node) s.wires && list_all (λ x. in_world o x.0) s.heard) here).0
+  own = (and_parts (in_world o s.node) (list_all (λ w. in_world o w.node) s.wires && list_all (λ x. in_world o x.0) s.heard) here).0
 
   others : (list_all (λ w. in_world o w.node) s.wires ≡ true) × (list_all (λ x. in_world o x.0) s.heard ≡ true)
   others =
-      both (list_all (λ w. in_world o w.node) s.wires) (list_all (λ x. in_world o x.0) s.heard)
-      (both (in_world o s.node) (list_all (λ w. in_world o w.node) s.wires && list_all (λ x. in_world o x.0) s.heard) here).1
-
-all_three : (x y z : Bool) → x ≡ true → y ≡ true → z ≡ true → (x && (y && z)) ≡ true
-all_three x y z e f g = ap (λ (b : Bool). b && (y && z)) e ∙ (ap (λ (b : Bool). b && z) f ∙ g)
+      and_parts (list_all (λ w. in_world o w.node) s.wires) (list_all (λ x. in_world o x.0) s.heard)
+      (and_parts (in_world o s.node) (list_all (λ w. in_world o w.node) s.wires && list_all (λ x. in_world o x.0) s.heard) here).1
 
 gives : (o : Opening) (s : Wiring) (from : ℕ) (i : Item) (t : Wiring) → leads_inside o s ≡ true → Takes s from i t
     → (leads_inside o t ≡ true) × (in_world o from ≡ true) × (dealt_of t ≡ with_taken from i (dealt_of s))
@@ -110,10 +106,10 @@ gives o s from (Letter l) t here (inl h) = (
 gives o s from (Letter l) t here (inr h) =
     let heard : (in_world o from && list_all (λ x. in_world o x.0) t.heard) ≡ true =
     sym (ap (λ (xs : List (ℕ × Stamped)). list_all (λ x. in_world o x.0) xs) h.oldest) ∙ (others o s here).1 in
-    let parts = both (in_world o from) (list_all (λ x. in_world o x.0) t.heard) heard in (
+    let parts = and_parts (in_world o from) (list_all (λ x. in_world o x.0) t.heard) heard in (
       ap (leads_inside o) h.rest
-          ∙ all_three (in_world o s.node) (list_all (λ w. in_world o w.node) s.wires) (list_all (λ x. in_world o x.0) t.heard)
-          (own o s here) (others o s here).0 parts.1,
+          ∙ and_from (in_world o s.node) (list_all (λ w. in_world o w.node) s.wires && list_all (λ x. in_world o x.0) t.heard) (own o s here)
+          (and_from (list_all (λ w. in_world o w.node) s.wires) (list_all (λ x. in_world o x.0) t.heard) (others o s here).0 parts.1),
       parts.0,
       ap dealt_of h.rest ∙ takes_more s from l,
     )

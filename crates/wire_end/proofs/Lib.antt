@@ -1,4 +1,3 @@
-pub mod Both
 pub mod Places
 pub mod Ordering
 pub mod Dealing

@@ -2,7 +2,7 @@
 use Rattle.std.proofs.Common.{ℕ, Bool, true, false, ◌≡◌, ◌==◌, ◌+◌, inl, inr, Option, Some, None, Ok, List, [], ◌∷◌, ◌++◌, map, length, set, refl, sym, ap, subst, ◌∙◌, append-nil, append_assoc, length-append, arith, option_map}
 use Rattle.std.specs.Prelude.{if◌then◌else◌, ◌||◌, not, is_some, filter}
 use Rattle.std.specs.List.{sum_by}
-use Rattle.std.proofs.lemmas.Bool.{eqb-true, ne_eqb, eq-eqb}
+use Rattle.std.proofs.lemmas.Bool.{and_parts, not-true, eqb-true, ne_eqb, eq-eqb}
 use Rattle.std.proofs.lemmas.Grind.{flat_map-append}
 use Rattle.std.proofs.lemmas.List.{map-append}
 use Rattle.std.proofs.lemmas.List.Sums.{sum_by-append}
@@ -25,7 +25,6 @@ use Rattle.wire_end.specs.Links.{HearsPart, read_on}
 use Rattle.wire_end.specs.Order.{AreNumbered, seen, ended_by, onward, spelled_on, Spells, lines_to, text_behind, texts_behind, came_of, InOrder, StayInOrder}
 use Rattle.wire_end.specs.Sending.{letter_text}
 use Rattle.wire_end.specs.Wirings.{place, wire_at, wire_if, link_with, with_lines_at, kept, printed, Posts, Takes, begun}
-use Rattle.wire_end.proofs.Both.{both}
 use Rattle.wire_end.proofs.Places.{at-place, link-set_same, link-set_other, new-unused}
 
 -- what there is of a node behind one more
@@ -79,18 +78,14 @@ spelled-more [] l g h k xs ys o e t =
 spelled-more (x ∷ ls) l g h k xs ys o e t =
     spelled-behind (taken x.part g) x.stamp ls l h k xs ys o (λ f zs d. spelled-more ls l f h k zs ys o d t) e
 
-not_true : (b : Bool) → not b ≡ true → b ≡ false
-not_true true e = absurd (cc e)
-not_true false e = refl
-
 -- a line that is heard is spelled behind the others
 spells-more : (line : LinkLine) (w v : Wire) (lines : List LinkLine) (came : List Stamped) (letter : Option ALetter)
     → Spells w lines came → HearsPart line.number line.part w v (Ok letter)
     → (rest : List Stamped) → map seen rest ≡ ended_by line.stamp (option_map letter_of letter)
     → Spells v (lines ++ line ∷ []) (came ++ rest)
 spells-more line w v lines came letter s h rest is =
-    let next = both (not w.is_down) (line.number == w.read + 1) h.0 in
-    let up : w.is_down ≡ false = not_true w.is_down next.0 in
+    let next = and_parts (not w.is_down) (line.number == w.read + 1) h.0 in
+    let up : w.is_down ≡ false = not-true w.is_down next.0 in
     let number : line.number ≡ w.read + 1 = eqb-true _ _ next.1 in
     let on = s.goes_on up in
     let part : taken line.part s.items ≡ Some (v.parts, option_map letter_of letter) =

@@ -6,10 +6,16 @@ mod laws;
 mod line;
 mod orders;
 mod sending;
+#[cfg(test)]
+mod tests;
 mod wire;
 mod wire_end;
 
 pub use faults::HearFault;
 pub use laws::{ends_deal, ends_stay_in_order};
+pub use letter_lines::{LetterFault, Part};
 pub use line::LinkLine;
+pub use link::{Inbox, Post};
+pub use node_events::Letter;
+pub use node_loop::{Event, Item, Stamped, Task};
 pub use wire_end::{WireEnd, Wiring};

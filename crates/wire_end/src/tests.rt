@@ -1,0 +1,85 @@
+//! An end of lines: letters that come in and go out as lines.
+use std::alloc::{AllocError, Global};
+use std::test::Fail;
+use term::{Node, NodeSet, parse_node_name, parse_nodes};
+use crate::{
+    Event, HearFault, Inbox, Item, Letter, LinkLine, Part, Post, Stamped, Task, WireEnd,
+};
+
+/// The first node of a name.
+fn node_of(name: &str) -> Result<Node, AllocError> {
+    match parse_node_name(name) {
+        Ok(name) => Ok(Node::first(name)),
+        Err(_) => Err(AllocError),
+    }
+}
+
+/// The end of the node a in the world of a and b.
+fn end_of_a(alloc: Global) -> Result<WireEnd, AllocError> {
+    let Ok(names) = parse_nodes("a,b") else {
+        return Err(AllocError);
+    };
+    WireEnd::new(alloc, node_of("a")?, &NodeSet::first_of(&names))
+}
+
+/// A line of a link with this number.
+fn line(number: u64, part: Part) -> LinkLine {
+    LinkLine {
+        number,
+        stamp: 9,
+        part,
+    }
+}
+
+/// Sends that a has left.
+fn send_down(end: &mut WireEnd, to: &Node) -> bool {
+    let letter = Letter::Down;
+    end.send(to, Item::Letter(Stamped { stamp: 4, letter }))
+        .is_ok()
+}
+
+/// Whether the letter that is taken next was sent by the step with this stamp.
+fn takes_stamp(end: &mut WireEnd, stamp: u64) -> bool {
+    match end.take() {
+        Ok(Some((_, Item::Letter(stamped)))) => stamped.stamp == stamp,
+        _ => false,
+    }
+}
+
+#[test]
+fn lines_are_read_in_their_order(rt: HostRuntime) -> Result<(), Fail> {
+    let b = node_of("b")?;
+    let mut end = end_of_a(rt.alloc())?;
+    assert!(rt; end.hear(&b, line(1, Part::JoinRefused)).is_ok());
+    assert!(rt; matches!(end.hear(&b, line(3, Part::Applied)), Err(HearFault::Gap)));
+    assert!(rt; takes_stamp(&mut end, 9));
+    assert!(rt; end.lose(&b).is_ok());
+    assert!(rt; takes_stamp(&mut end, 0));
+    Ok(())
+}
+
+#[test]
+fn letters_go_out_as_lines(rt: HostRuntime) -> Result<(), Fail> {
+    let mut end = end_of_a(rt.alloc())?;
+    assert!(rt; send_down(&mut end, &node_of("b")?));
+    assert_eq!(rt; end.take_lines().as_str(), "send b 1 4 down\n");
+    assert!(rt; send_down(&mut end, &node_of("a")?));
+    assert!(rt; end.take_lines().is_empty());
+    assert!(rt; takes_stamp(&mut end, 4));
+    assert!(rt; !send_down(&mut end, &node_of("c")?));
+    Ok(())
+}
+
+#[test]
+fn tasks_wait(rt: HostRuntime) -> Result<(), Fail> {
+    let mut end = end_of_a(rt.alloc())?;
+    let event = Event::Leave;
+    end.ask(Task {
+        ticket: None,
+        event,
+    })?;
+    assert!(rt; matches!(end.take(), Ok(Some((_, Item::Task(_))))));
+    assert!(rt; matches!(end.take(), Ok(None)));
+    assert!(rt; end.take_orders().is_empty());
+    Ok(())
+}
