@@ -1,10 +1,8 @@
 //! An end of lines: letters that come in and go out as lines.
+use crate::{Event, HearFault, Inbox, Item, Letter, LinkLine, Part, Post, Stamped, Task, WireEnd};
 use std::alloc::{AllocError, Global};
 use std::test::Fail;
 use term::{Node, NodeSet, parse_node_name, parse_nodes};
-use crate::{
-    Event, HearFault, Inbox, Item, Letter, LinkLine, Part, Post, Stamped, Task, WireEnd,
-};
 
 /// The first node of a name.
 fn node_of(name: &str) -> Result<Node, AllocError> {
