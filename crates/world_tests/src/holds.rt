@@ -1,14 +1,12 @@
 //! When a node may leave: at each moment of some scripts, but in its hold of the global lock.
-use crate::worlds::{
-    Cluster, ENOUGH, NOTHING, Scene, event_of, is_held, is_so, is_written, refusal_of,
-};
+use crate::worlds::{Cluster, ENOUGH, NOTHING, Scene, event_of, is_held, is_so, is_written};
 use cluster_world::{Event, Refusal, StepFault, WorldEvent};
 use std::alloc::Global;
 use term::{Node, parse_node};
 
 /// Plays an event, and puts it behind the others. Whether it was taken.
 fn plays_on(world: &mut Cluster, events: &mut Vec<WorldEvent>, event: WorldEvent) -> bool {
-    refusal_of(world, &event).is_none() && events.push(event).is_ok()
+    world.play(&event).is_ok() && events.push(event).is_ok()
 }
 
 /// Delivers what waits until nothing does, each letter by an event of its own. Whether all that was taken.
@@ -54,9 +52,9 @@ fn is_alone(world: &Cluster, node: &Node) -> bool {
 /// Whether a node may leave exactly where it doesn't hold the lock.
 fn leaves_out_of_hold(world: &mut Cluster, node: &Node) -> bool {
     let is_held = is_held(world, node);
-    match refusal_of(world, &WorldEvent::At(node.copy(), Event::Leave)) {
-        None => !is_held,
-        Some(refusal) => is_held && refusal == Refusal::Step(StepFault::HoldsLock),
+    match world.play(&WorldEvent::At(node.copy(), Event::Leave)) {
+        Ok(_) => !is_held,
+        Err(refusal) => is_held && refusal == Refusal::Step(StepFault::HoldsLock),
     }
 }
 

@@ -1,5 +1,5 @@
 //! Work under the locks of a world's clients.
-use crate::worlds::{Cluster, Scene, is_so, is_text, refusal_of};
+use crate::worlds::{Cluster, Scene, is_so, is_text};
 use cluster_world::{Event, Refusal, SeatFault, StepFault, WorldEvent, WorldSeat};
 use name_table::ListTable;
 use std::alloc::Global;
@@ -23,7 +23,7 @@ fn lock(requester: &str) -> Option<LockId> {
 /// A process dies.
 fn kill(world: &mut Cluster, process: &Pid) {
     let exit = Event::Exit(process.copy());
-    refusal_of(world, &WorldEvent::At(process.node.copy(), exit));
+    let _ = world.play(&WorldEvent::At(process.node.copy(), exit));
 }
 
 /// What seven comes to that a holder answers under a lock, and dies meanwhile, where it is to.

@@ -58,14 +58,6 @@ impl<'a> Scene<'a> {
     }
 }
 
-/// Why an event is refused that is played, if it is.
-pub(crate) fn refusal_of(world: &mut Cluster, event: &WorldEvent) -> Option<Refusal> {
-    match world.play(event) {
-        Ok(_) => None,
-        Err(refusal) => Some(refusal),
-    }
-}
-
 /// Delivers what waits until nothing does. Whether all that was taken.
 fn settle(world: &mut Cluster) -> bool {
     for _ in 0..ENOUGH {
@@ -106,7 +98,7 @@ pub(crate) fn event_of(alloc: Global, line: &str) -> Option<WorldEvent> {
 /// Plays a line of a script. Whether it was taken.
 fn play_line(alloc: Global, world: &mut Cluster, line: &str) -> bool {
     match event_of(alloc, line) {
-        Some(event) => refusal_of(world, &event).is_none(),
+        Some(event) => world.play(&event).is_ok(),
         None => line == "settle" && settle(world),
     }
 }
@@ -348,7 +340,10 @@ fn is_no_process(world: &mut Cluster, node: &str, process: &str) -> bool {
     match (parse_node(node), parse_pid(process)) {
         (Ok(node), Ok(process)) => {
             let event = WorldEvent::At(node, Event::Call(Call::Notices(process)));
-            refusal_of(world, &event) == Some(Refusal::Step(StepFault::NoSuchProcess))
+            match world.play(&event) {
+                Ok(_) => false,
+                Err(refusal) => refusal == Refusal::Step(StepFault::NoSuchProcess),
+            }
         }
         _ => false,
     }
