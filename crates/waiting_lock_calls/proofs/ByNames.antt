@@ -16,10 +16,10 @@ use Rattle.getting_through.specs.Restarts.{IsUp}
 use Rattle.getting_through.proofs.Numbers.{node-number}
 use Rattle.getting_through.proofs.Standing.{Sound, started_to}
 use Rattle.getting_through.proofs.StartedLists.{in_first}
-use Rattle.getting_through.specs.GettingThrough.{is_delivery_or_retry}
-use Rattle.getting_through.specs.NamedGettingFree.{is_named_delivery_or_retry}
 use Rattle.waiting_lock_calls.proofs.OpenCalls.{none_leaves}
 use Rattle.waiting_lock_calls.proofs.WhyHeld.{found_in}
+use Rattle.getting_through.specs.Worlds.{is_delivery_or_retry}
+use Rattle.getting_through.specs.WorldsOfNames.{is_named_delivery_or_retry}
 
 -- no letter of a node that has left waits for one that runs
 abbrev pub Silent : Opening → World → Type 0
