@@ -1,6 +1,6 @@
 -- Worlds of named nodes, with joins, departures and restarts, as worlds of which laws are said. A node runs there once it has started,
 -- until it has left: so the `Down`s that wait for nodes that haven't started are no letters that wait.
-use Rattle.std.specs.Prelude.{ℕ, Bool, true, false, not, ◌&&◌, ◌≡◌, None, List}
+use Rattle.std.specs.Prelude.{Bool, true, false, not, ◌&&◌, ◌≡◌, None, List}
 use Rattle.registry_model.specs.Process.{Nodes}
 use Rattle.protocol_model.specs.Event.{Event}
 use Rattle.protocol_model.specs.World.{in_world, left}

@@ -106,7 +106,7 @@ pub fn exclusion()
 /// that isn't dead waits for a retry, unless its last `set_lock` is answered. By names the `Down`s that wait for nodes that haven't started
 /// are left out of account: in the world of nodes one waits for each of them once a node has left, and so that isn't quiet any more.
 pub fn client_locks()
-    ensures { OfNames ClientLocks }
+    ensures names { OfNames ClientLocks }
     ensures nodes { OfTheirNodes ClientLocks }
 {}
 
