@@ -13,7 +13,7 @@ use Rattle.protocol_model.specs.Node.{Node, Op, Current}
 use Rattle.protocol_model.specs.Course.{global_given}
 use Rattle.protocol_model.specs.World.{Opening, in_world, World, left, WorldEvent, opening_world, run}
 use Rattle.protocol_model.specs.ClientLocks.{is_no_more, Tally, tally_from, holds_count}
-use Rattle.protocol_model.specs.Leftovers.{Runs}
+use Rattle.protocol_model.specs.Quiet.{Runs}
 use Rattle.lock_answers.proofs.Nothing.{nothing_is_left as of_worlds}
 use Rattle.creations.specs.NodeNames.{NamedOpening, opening_of}
 use Rattle.creations.specs.NamedWorld.{NamedWorld, NamedEvent, has_started, after_events, as_events}

@@ -12,7 +12,7 @@ use Rattle.protocol_model.specs.Event.{Event, Refusal, is_waiting, is_waiting_ca
 use Rattle.protocol_model.specs.World.{Opening, in_world, World, left, WorldEvent, At, Deliver, opening_world, refusal, accepted, happens, run, next_delivery, deliveries_left}
 use Rattle.protocol_model.specs.Delivering.{IsFirstDelivery}
 use Rattle.protocol_model.specs.Course.{course}
-use Rattle.protocol_model.specs.Leftovers.{Runs}
+use Rattle.protocol_model.specs.Quiet.{Runs}
 use Rattle.protocol_model.proofs.Courses.{run-append}
 use Rattle.protocol_model.proofs.Deliveries.{delivers_the_first}
 use Rattle.no_dead_end.proofs.Indices.{both}

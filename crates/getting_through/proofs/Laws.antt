@@ -20,7 +20,7 @@ use Rattle.protocol_model.specs.World.{Opening, World, left, WorldEvent, At, Del
 use Rattle.protocol_model.specs.Course.{entries_of, course}
 use Rattle.protocol_model.specs.Fit.{is_delivery}
 use Rattle.protocol_model.specs.Answers.{answer_to}
-use Rattle.protocol_model.specs.Leftovers.{Runs}
+use Rattle.protocol_model.specs.Quiet.{Runs}
 use Rattle.protocol_model.proofs.Courses.{run-append}
 use Rattle.no_dead_end.proofs.Indices.{greatest_in}
 use Rattle.no_dead_end.proofs.Invariants.{IsUp}

@@ -14,7 +14,7 @@ use Rattle.protocol_model.specs.Turn.{Turn}
 use Rattle.protocol_model.specs.World.{Opening, World, WorldEvent, At, place, other, opening_world, refusal, accepted, happens, run, all_answers}
 use Rattle.protocol_model.specs.Course.{played, entries_of, answers_of, course}
 use Rattle.protocol_model.specs.Answers.{answer_to}
-use Rattle.protocol_model.specs.Leftovers.{Runs}
+use Rattle.protocol_model.specs.Quiet.{Runs}
 use Rattle.protocol_model.proofs.Courses.{answers-append, course_answers}
 use Rattle.no_dead_end.proofs.Courses.{entries_of-append}
 use Rattle.no_dead_end.specs.NodeNames.{NamedOpening}

@@ -1,16 +1,16 @@
 -- Worlds of nodes, and worlds of names, whose nodes come back. What is said of worlds is said once, of what both have in common: at any
 -- time they are a world of nodes, of which some run, and events of their own make the next.
 -- es are the events so far, and w the world that they made.
-use Rattle.std.specs.Prelude.{ℕ, Bool, true, false, not, ◌&&◌, ◌≡◌, None, List, []}
+use Rattle.std.specs.Prelude.{ℕ, Bool, true, false, not, ◌&&◌, ◌≡◌, None, List}
 use Rattle.registry_model.specs.Process.{Nodes}
 use Rattle.protocol_model.specs.Node.{Op, Current}
 use Rattle.protocol_model.specs.Event.{Event as NodeEvent}
 use Rattle.protocol_model.specs.World.{Opening, in_world, World as WorldOfNodes, left, WorldEvent, At, Deliver, opening_world, refusal, run}
-use Rattle.protocol_model.specs.Course.{Played, Seen, course, seen}
+use Rattle.protocol_model.specs.Course.{Played, course, seen}
 use Rattle.protocol_model.specs.Fit.{is_delivery}
 use Rattle.protocol_model.specs.ClientLocks.{ExclusionAfter}
 use Rattle.protocol_model.specs.Headline.{Headline}
-use Rattle.protocol_model.specs.Leftovers.{Runs}
+use Rattle.protocol_model.specs.Quiet.{Runs, NoLetterWaits}
 
 -- The worlds that come of one opening
 pub record Worlds : Type 1 where
@@ -67,7 +67,7 @@ OfNodes L = (o : Opening) (es : List WorldEvent) → L (of_nodes o) es (run o (o
 module _ (W : Worlds) (w : W.World) where
   -- no letter waits on a link to a running node
   abbrev pub IsQuiet : Type 0
-  IsQuiet = (f c : ℕ) → in_world W.opening f ≡ true → W.Runs w c → (W.nodes w).links.queue f c ≡ []
+  IsQuiet = NoLetterWaits (W.Runs w) W.opening (W.nodes w)
 
   -- and no operation of a running node waits for a retry
   pub record IsSettled : Type 0 where

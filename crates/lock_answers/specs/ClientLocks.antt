@@ -1,5 +1,5 @@
 -- Clients' locks, in one record. es: the events so far; w: the world that they made; p: a process.
-use Rattle.std.specs.Prelude.{ℕ, true, false, ◌||◌, ◌≡◌, Some, None, List, []}
+use Rattle.std.specs.Prelude.{true, false, ◌||◌, ◌≡◌, Some, None, List, []}
 use Rattle.registry_model.specs.Process.{Process}
 use Rattle.protocol_model.specs.World.{WorldEvent, refusal}
 use Rattle.protocol_model.specs.Course.{standing, seen}

@@ -14,7 +14,7 @@ use Rattle.protocol_model.specs.World.{Opening, World, WorldEvent, opening_world
 use Rattle.protocol_model.specs.Course.{Played, answers_of}
 use Rattle.protocol_model.specs.Fit.{Numbered, accepted_at, decided_at}
 use Rattle.protocol_model.specs.Answers.{answer_to, number_of, entered_at, may_have, calls_at, answers_under, AtMostOne, NotYet, Once}
-use Rattle.protocol_model.specs.Leftovers.{Runs}
+use Rattle.protocol_model.specs.Quiet.{Runs}
 use Rattle.named_events.proofs.Indices.{both}
 use Rattle.named_events.proofs.Accounts.{own, owed_by, is_word_at, replies_to}
 use Rattle.named_events.proofs.FittingChains.{Book}

@@ -6,7 +6,7 @@ use Rattle.protocol_model.specs.Watch.{owed, is_dead}
 use Rattle.protocol_model.specs.Node.{Node, Current, LockPhase, LockCall}
 use Rattle.protocol_model.specs.Event.{is_waiting}
 use Rattle.protocol_model.specs.World.{Opening, World, opening_world, run}
-use Rattle.protocol_model.specs.Leftovers.{Runs}
+use Rattle.protocol_model.specs.Quiet.{Runs}
 use Rattle.protocol_model.proofs.Courses.{run-append}
 use Rattle.named_events.specs.NodeNames.{NamedOpening, opening_of}
 use Rattle.named_events.specs.NamedWorld.{NamedWorld, NamedEvent, has_started, after_events, as_events}

@@ -8,7 +8,7 @@ use Rattle.registry_model.proofs.Lists.{Contains-cases, Contains-front, Contains
 use Rattle.protocol_model.specs.Node.{Op, Current, LockPhase, LockCall, call_of, is_writing}
 use Rattle.protocol_model.specs.Event.{Event, is_joining, is_waiting}
 use Rattle.protocol_model.specs.World.{Opening, in_world, World, left, At, refusal, opening_world, run}
-use Rattle.protocol_model.specs.Leftovers.{Runs}
+use Rattle.protocol_model.specs.Quiet.{Runs}
 use Rattle.named_events.proofs.Invariants.{IsUp, IsProperCurrent}
 use Rattle.walk.proofs.Calls.{AllOpen, all_open}
 use Rattle.named_events.proofs.Tokens.{Gate, Away, Knock, Wait, Turned, Entering, is_away}

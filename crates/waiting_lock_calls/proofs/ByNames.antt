@@ -7,7 +7,7 @@ use Rattle.protocol_model.specs.Links.{is_nil}
 use Rattle.protocol_model.specs.Turn.{sent_to}
 use Rattle.protocol_model.specs.Event.{Event}
 use Rattle.protocol_model.specs.World.{Opening, World, left, WorldEvent, At, place, other, turn_of, refusal, accepted, happens}
-use Rattle.protocol_model.specs.Leftovers.{Runs}
+use Rattle.protocol_model.specs.Quiet.{Runs}
 use Rattle.getting_through.proofs.Indices.{not_true}
 use Rattle.walk.proofs.Runs.{happens-accepted}
 use Rattle.getting_through.specs.NodeNames.{NamedOpening, name_of, creation_of, node_of, first_nodes, opening_of}

@@ -20,7 +20,7 @@ use Rattle.protocol_model.specs.Course.{answers_of, course}
 use Rattle.protocol_model.specs.Fit.{is_delivery}
 use Rattle.protocol_model.specs.Answers.{answer_to, answers_under}
 use Rattle.protocol_model.specs.Refusals.{HasOpenCall}
-use Rattle.protocol_model.specs.Leftovers.{Runs}
+use Rattle.protocol_model.specs.Quiet.{Runs}
 use Rattle.protocol_model.proofs.Courses.{run-append}
 use Rattle.protocol_model.proofs.Finding.{found_any}
 use Rattle.getting_through.proofs.Indices.{both}
