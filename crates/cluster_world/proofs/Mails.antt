@@ -52,40 +52,34 @@ module _ (h : Mailed) (sound : IsSound h) where
       (link : IsBetween d.link (name_of d.sender) d.receiver w.nodes)
       (first : IsFirstSender (name_of d.sender) d.receiver (Some d.sender) (links_of w)) (same : k.nodes ≡ h.mesh.nodes)
       (took : on_mesh k ≡ taken (from_of d.link h.mesh) (to_of d.link h.mesh) (on_mesh h.mesh)) where
-    abbrev f : ℕ
-    f = d.sender
+    reader_here : set_of h.nodes d.receiver ≡ true
+    reader_here = subst (λ (m : Mailed). set_of m.nodes d.receiver ≡ true) (sym is) (known_place w.nodes d.receiver d.link.receiver link.receiver)
 
-    abbrev t : ℕ
-    t = d.receiver
+    all_there : h.unsent ≡ None
+    all_there = ap (λ (m : Mailed). m.unsent) is ∙ all_sent
 
-    here : set_of h.nodes t ≡ true
-    here = subst (λ (m : Mailed). set_of m.nodes t ≡ true) (sym is) (known_place w.nodes t d.link.receiver link.receiver)
-
-    all : h.unsent ≡ None
-    all = ap (λ (m : Mailed). m.unsent) is ∙ all_sent
-
-    was_taken : on_mesh k ≡ taken (name_of f) (name_of t) (on_mesh h.mesh)
+    was_taken : on_mesh k ≡ taken (name_of d.sender) (name_of d.receiver) (on_mesh h.mesh)
     was_taken =
-        let l = link_there h sound w is d.link (name_of f) t link in
+        let l = link_there h sound w is d.link (name_of d.sender) d.receiver link in
         took ∙ ap (λ (x : ℕ). taken x (to_of d.link h.mesh) (on_mesh h.mesh)) l.1
-        ∙ ap (λ (y : ℕ). taken (name_of f) y (on_mesh h.mesh)) l.2
+        ∙ ap (λ (y : ℕ). taken (name_of d.sender) y (on_mesh h.mesh)) l.2
 
-    on_its_link : IsFirstSender (name_of f) t (Some f) (on_links h)
-    on_its_link = subst (λ (u : Option Unsent). IsFirstSender (name_of f) t (Some f) (with_unsent u (on_links h))) all
-        (subst (λ (m : Mailed). IsFirstSender (name_of f) t (Some f) (links_of m)) (sym is) first)
+    on_its_link : IsFirstSender (name_of d.sender) d.receiver (Some d.sender) (on_links h)
+    on_its_link = subst (λ (u : Option Unsent). IsFirstSender (name_of d.sender) d.receiver (Some d.sender) (with_unsent u (on_links h))) all_there
+        (subst (λ (m : Mailed). IsFirstSender (name_of d.sender) d.receiver (Some d.sender) (links_of m)) (sym is) first)
 
     -- the oldest letter was taken
     pub sound_taken : IsSound (record h { mesh = k })
     sound_taken = sound_of h.nodes h.departed k h.unsent sound.left (same ∙ sound.names)
         (subst (λ (w : Links SentLetter). Fits h.nodes h.departed w) (sym was_taken)
-        (fits_taken h.nodes h.departed (on_mesh h.mesh) sound.left (fits_of h sound) (name_of f) (name_of t))) sound.own
+        (fits_taken h.nodes h.departed (on_mesh h.mesh) sound.left (fits_of h sound) (name_of d.sender) (name_of d.receiver))) sound.own
 
-    pub links_taken : links_of (record h { mesh = k }) ≡ taken f t (links_of w)
-    links_taken = ap (λ (u : Option Unsent). with_unsent u (on_links (record h { mesh = k }))) all
+    pub links_taken : links_of (record h { mesh = k }) ≡ taken d.sender d.receiver (links_of w)
+    links_taken = ap (λ (u : Option Unsent). with_unsent u (on_links (record h { mesh = k }))) all_there
         ∙ ap (λ (w : Links SentLetter). by_nodes h.nodes h.departed w) was_taken
-        ∙ taken_by h.nodes h.departed (on_mesh h.mesh) sound.left (fits_of h sound) f t here on_its_link
-        ∙ ap (λ (u : Option Unsent). taken f t (with_unsent u (on_links h))) (sym all)
-        ∙ ap (λ (m : Mailed). taken f t (links_of m)) is
+        ∙ taken_by h.nodes h.departed (on_mesh h.mesh) sound.left (fits_of h sound) d.sender d.receiver reader_here on_its_link
+        ∙ ap (λ (u : Option Unsent). taken d.sender d.receiver (with_unsent u (on_links h))) (sym all_there)
+        ∙ ap (λ (m : Mailed). taken d.sender d.receiver (links_of m)) is
 
   module _ (d : ℕ) (more : List ℕ) (k : Mesh SentLetter) (result : Result Unit LinkFault) (here : set_of h.nodes d ≡ true)
       (same : k.nodes ≡ h.mesh.nodes) (ok : OnOk result (on_mesh k ≡ closed_out (name_of d) (on_mesh h.mesh)))
