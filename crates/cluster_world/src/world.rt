@@ -413,9 +413,9 @@ impl<N: Names<Memory = Global>> World<N> {
     pub(crate) fn accept(&mut self, admission: Admission<'_>) -> Result<Vec<Answer>, AllocError>
         requires { IsFound admission self.old }
         ensures kept { Keeps self.old self.new }
-        ensures ok { IfOk result (λ answers. Played (event_by admission) self.old self.new [] answers.items) }
-        ensures entered { OnOk result (EntersRestart (event_by admission) self.old self.new) }
-        ensures few { IfOk result (λ answers. AreFew (place_by admission) self.old answers.items) }
+        ensures ok { IfOk result (λ answers. Played (event_by admission.entry) self.old self.new [] answers.items) }
+        ensures entered { OnOk result (EntersRestart (event_by admission.entry) self.old self.new) }
+        ensures few { IfOk result (λ answers. AreFew (place_by admission.entry) self.old answers.items) }
         ensures as_before { OnErr result (named self.new ≡ named self.old) }
     {
         match admission {
