@@ -7,6 +7,7 @@ pub use Rattle.node_loop.specs.Owing
 pub use Rattle.node_loop.specs.Sound
 pub use Rattle.node_loop.specs.Told
 pub mod Editions
+pub mod Rule
+pub mod Chutes
 pub mod Readers
 pub mod Publishing
-pub mod Rule

@@ -4,12 +4,16 @@
 //! edition that was published last; it never waits, neither for the publisher nor for other readers.
 #![tactic(auto)]
 
+mod chute;
+mod idle;
 mod kept;
 mod publisher;
 mod reader;
 mod rule;
 mod shown;
 
+pub use chute::{Chute, Stamped};
+pub use idle::Idle;
 pub use kept::KeptPublisher;
 pub use node_loop::{
     Answer, Call, Edit, Edition, Effect, Event, Item, NameList, NodeEnd, NodeLoop, Nodes, Notice,
@@ -17,5 +21,5 @@ pub use node_loop::{
     Ticket, Transcript, Update, WorldEvent,
 };
 pub use publisher::Publisher;
-pub use reader::{Lookup, ReaderFactory, TableReader};
-pub use shown::Shown;
+pub use reader::{Lookup, TableReader};
+pub use shown::{Front, Shown, Stamp};

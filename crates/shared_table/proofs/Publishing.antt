@@ -1,0 +1,70 @@
+-- What a publisher holds, from one call to the next.
+use Rattle.std.proofs.Common.{◌≡◌, ◌+◌, ◌<◌, ℕ, List, [], ◌∷◌, ◌++◌, length, Option, Some, Ok, Err, sym, refl, ap, ◌∙◌, subst, arith, append-nil, length-append}
+use Rattle.std.specs.Prelude.{Result, MatchResult}
+use Rattle.std.specs.List.{fold}
+use Rattle.left_right.specs.Register.{TurnsAt}
+use Rattle.node_loop.specs.declared.edit.Edition.{Edition}
+use Rattle.node_loop.specs.Editions.{updated}
+use Rattle.node_books.specs.declared.moment.Moment.{Moment}
+use Rattle.node_books.specs.Books.{Known}
+use Rattle.node_books.specs.Moments.{shown_at}
+use Rattle.shared_table.specs.declared.shown.Shown.{Shown}
+use Rattle.shared_table.specs.declared.shown.Front.{Front}
+use Rattle.shared_table.specs.declared.shown.Stamp.{Stamp}
+use Rattle.shared_table.specs.Editions.{edition_of, front_of, stamped, IsSo}
+use Rattle.shared_table.specs.Rule.{Token, IsOf, Keeps, Marks}
+use Rattle.shared_table.specs.Publishing.{Progress, AreSo, IsSound, IsAllShown}
+use Rattle.shared_table.proofs.Keeping.{marks, so_behind, so_first, so_front, so_rest, so_snoc, fold_snoc, fold_append}
+
+abbrev Mark : Type 0
+Mark = Option Token
+
+module _ (known : Known) (x : Shown) (us held : List Stamp) (mark : Mark) (sound : IsSound known x (us ++ held) mark) where
+  behind : IsSo (fold stamped (front_of x) us) × ((fold stamped (front_of x) us).seen.book ≡ known.book)
+  behind = so_behind known.book (front_of x) us (so_front known.book (front_of x) us held sound.so)
+
+  -- what waits may be published
+  pub publishes_all : (seat : ℕ) (next : Shown) → front_of next ≡ fold stamped (front_of x) us → TurnsAt Keeps seat mark x next Marks
+  publishes_all seat next is = marks seat mark x next (subst IsSo (sym is) behind.0)
+      (ap (λ (f : Front). f.seen.book) is ∙ behind.1 ∙ sym (so_first known.book (front_of x) (us ++ held) sound.so).1)
+
+  -- behind a publish
+  pub sound_published : (next : Shown) (vs : List Stamp) (w : Mark) → front_of next ≡ fold stamped (front_of x) us → vs ≡ [] → w ≡ Some next.seen
+      → IsSound known next (vs ++ held) w
+  sound_published next vs w is none marked = subst (λ (l : List Stamp). IsSound known next (l ++ held) w) (sym none) (record {
+    so = subst (λ (f : Front). AreSo known.book f held) (sym is) (so_rest known.book (front_of x) us held sound.so);
+    last = ap (λ (f : Front). (fold stamped f held).edition) is ∙ ap (λ (f : Front). f.edition) (sym (fold_append (front_of x) us held)) ∙ sound.last;
+    knows = (next.seen, marked, ap (λ (f : Front). f.seen.book) is ∙ behind.1);
+  })
+
+  -- behind one that was refused
+  pub sound_same : (same : Shown) (vs : List Stamp) (w : Mark) → same ≡ x → vs ≡ us → w ≡ mark → IsSound known same (vs ++ held) w
+  sound_same same vs w is none marked =
+      subst (λ (s : Shown). IsSound known s (vs ++ held) w) (sym is)
+      (subst (λ (l : List Stamp). IsSound known x (l ++ held) w) (sym none) (subst (λ (m : Mark). IsSound known x (us ++ held) m) (sym marked) sound))
+
+-- one moment more is written down, and what was owed until then waits
+pub sound_more : (known : Known) (x : Shown) (us : List Stamp) (mark : Mark) (sound : IsSound known x us mark) (n : Moment) (s : Stamp)
+    → s.seen.book ≡ known.book → s.seen.log ≡ known.log ++ n ∷ [] → s.count ≡ length known.log + 1
+    → updated (shown_at known.log) s.update ≡ shown_at (known.log ++ n ∷ [])
+    → IsSound (record known { log = known.log ++ n ∷ [] }) x (us ++ s ∷ []) mark
+sound_more known x us mark sound n s book log count up =
+    let is : updated (fold stamped (front_of x) us).edition s.update ≡ shown_at (known.log ++ n ∷ []) =
+    ap (λ (e : Edition). updated e s.update) sound.last ∙ up in
+    let so : IsSo (stamped (fold stamped (front_of x) us) s) = (
+      is ∙ ap shown_at (sym log),
+      count ∙ omega (arith, length-append known.log (n ∷ []), ap (λ (l : List Moment). length l) log),
+      omega (arith, count),
+    ) in record {
+      so = so_snoc known.book (front_of x) us s sound.so so book;
+      last = ap (λ (f : Front). f.edition) (fold_snoc (front_of x) us s) ∙ is;
+      knows = sound.knows;
+    }
+
+-- where nothing waits, all that was written down is shown
+pub all_shown : (known : Known) (x : Shown) (us : List Stamp) (mark : Mark) → IsSound known x us mark → us ≡ [] → edition_of x ≡ shown_at known.log
+all_shown known x us mark sound none = ap (λ (l : List Stamp). (fold stamped (front_of x) l).edition) (sym none) ∙ sound.last
+
+pub either_way : {T E C : Type 0} {P P' : T → Type 0} {Q Q' : E → Type 0} (r : Result T E) → MatchResult r P Q → MatchResult r P' Q' → ((x : T) → P x → P' x → C) → ((e : E) → Q e → Q' e → C) → C
+either_way (Ok x) a b f g = f x a b
+either_way (Err e) a b f g = g e a b
