@@ -1,13 +1,15 @@
 -- What a publisher holds, from one call to the next.
-use Rattle.std.proofs.Common.{◌≡◌, ◌+◌, ◌<◌, ℕ, List, [], ◌∷◌, ◌++◌, length, Option, Some, Ok, Err, sym, refl, ap, ◌∙◌, subst, arith, append-nil, length-append}
-use Rattle.std.specs.Prelude.{Result, MatchResult}
+use Rattle.std.proofs.Common.{◌≡◌, ◌+◌, ◌<◌, ℕ, true, false, List, [], ◌∷◌, ◌++◌, length, Option, Some, Ok, Err, sym, refl, ap, ◌∙◌, subst, arith, append-nil, length-append}
+use Rattle.std.specs.Prelude.{Result, MatchResult, OnOk, is_ok}
 use Rattle.std.specs.List.{fold}
 use Rattle.left_right.specs.Register.{TurnsAt}
 use Rattle.node_loop.specs.declared.edit.Edition.{Edition}
-use Rattle.node_loop.specs.Editions.{updated}
+use Rattle.node_loop.specs.Editions.{opening, updated}
+use Rattle.node_loop.specs.Held.{Looping}
+use Rattle.node_loop.specs.Owing.{shown_by}
 use Rattle.node_books.specs.declared.moment.Moment.{Moment}
 use Rattle.node_books.specs.Books.{Known}
-use Rattle.node_books.specs.Moments.{shown_at}
+use Rattle.node_books.specs.Moments.{moment, shown_at}
 use Rattle.shared_table.specs.declared.shown.Shown.{Shown}
 use Rattle.shared_table.specs.declared.shown.Front.{Front}
 use Rattle.shared_table.specs.declared.shown.Stamp.{Stamp}
@@ -19,29 +21,44 @@ use Rattle.shared_table.proofs.Keeping.{marks, so_behind, so_first, so_front, so
 abbrev Mark : Type 0
 Mark = Option Token
 
-module _ (known : Known) (x : Shown) (us held : List Stamp) (mark : Mark) (sound : IsSound known x (us ++ held) mark) where
+-- what waits is published
+module _ (known : Known) (x : Shown) (us held : List Stamp) (so : AreSo known.book (front_of x) (us ++ held)) where
   behind : IsSo (fold stamped (front_of x) us) × ((fold stamped (front_of x) us).seen.book ≡ known.book)
-  behind = so_behind known.book (front_of x) us (so_front known.book (front_of x) us held sound.so)
+  behind = so_behind known.book (front_of x) us (so_front known.book (front_of x) us held so)
 
-  -- what waits may be published
-  pub publishes_all : (seat : ℕ) (next : Shown) → front_of next ≡ fold stamped (front_of x) us → TurnsAt Keeps seat mark x next Marks
-  publishes_all seat next is = marks seat mark x next (subst IsSo (sym is) behind.0)
-      (ap (λ (f : Front). f.seen.book) is ∙ behind.1 ∙ sym (so_first known.book (front_of x) (us ++ held) sound.so).1)
+  -- it may be
+  pub publishes_all : (seat : ℕ) (mark : Mark) (next : Shown) → front_of next ≡ fold stamped (front_of x) us → TurnsAt Keeps seat mark x next Marks
+  publishes_all seat mark next is = marks seat mark x next (subst IsSo (sym is) behind.0)
+      (ap (λ (f : Front). f.seen.book) is ∙ behind.1 ∙ sym (so_first known.book (front_of x) (us ++ held) so).1)
 
-  -- behind a publish
-  pub sound_published : (next : Shown) (vs : List Stamp) (w : Mark) → front_of next ≡ fold stamped (front_of x) us → vs ≡ [] → w ≡ Some next.seen
-      → IsSound known next (vs ++ held) w
-  sound_published next vs w is none marked = subst (λ (l : List Stamp). IsSound known next (l ++ held) w) (sym none) (record {
-    so = subst (λ (f : Front). AreSo known.book f held) (sym is) (so_rest known.book (front_of x) us held sound.so);
-    last = ap (λ (f : Front). (fold stamped f held).edition) is ∙ ap (λ (f : Front). f.edition) (sym (fold_append (front_of x) us held)) ∙ sound.last;
+  -- what is held then
+  pub sound_published : (fold stamped (front_of x) (us ++ held)).edition ≡ shown_at known.log → (next : Shown) (vs : List Stamp) (w : Mark)
+      → front_of next ≡ fold stamped (front_of x) us → vs ≡ [] → w ≡ Some next.seen → IsSound known next (vs ++ held) w
+  sound_published last next vs w is none marked = subst (λ (l : List Stamp). IsSound known next (l ++ held) w) (sym none) (record {
+    so = subst (λ (f : Front). AreSo known.book f held) (sym is) (so_rest known.book (front_of x) us held so);
+    last = ap (λ (f : Front). (fold stamped f held).edition) is ∙ ap (λ (f : Front). f.edition) (sym (fold_append (front_of x) us held)) ∙ last;
     knows = (next.seen, marked, ap (λ (f : Front). f.seen.book) is ∙ behind.1);
   })
 
-  -- behind one that was refused
-  pub sound_same : (same : Shown) (vs : List Stamp) (w : Mark) → same ≡ x → vs ≡ us → w ≡ mark → IsSound known same (vs ++ held) w
-  sound_same same vs w is none marked =
-      subst (λ (s : Shown). IsSound known s (vs ++ held) w) (sym is)
-      (subst (λ (l : List Stamp). IsSound known x (l ++ held) w) (sym none) (subst (λ (m : Mark). IsSound known x (us ++ held) m) (sym marked) sound))
+-- where it was refused
+pub sound_same : (known : Known) (x same : Shown) (us vs held : List Stamp) (mark w : Mark) → IsSound known x (us ++ held) mark → same ≡ x → vs ≡ us
+    → w ≡ mark → IsSound known same (vs ++ held) w
+sound_same known x same us vs held mark w sound is none marked =
+    subst (λ (s : Shown). IsSound known s (vs ++ held) w) (sym is)
+    (subst (λ (l : List Stamp). IsSound known x (l ++ held) w) (sym none) (subst (λ (m : Mark). IsSound known x (us ++ held) m) (sym marked) sound))
+
+-- what is shown at first is so
+pub first_so : (x : Shown) (a : Looping) (name : ℕ) (s : Token) → front_of x ≡ record { edition = opening name; seen = s; count = 1 }
+    → name ≡ a.log.node → shown_by a ≡ opening a.log.node → s.log ≡ moment false a ∷ [] → IsSo (front_of x)
+first_so x a name s is named opens log = subst IsSo (sym is)
+    (ap opening named ∙ sym opens ∙ ap shown_at (sym log), ap (λ (l : List Moment). length l) (sym log), omega arith)
+
+-- nothing waits then
+pub opens_so : (known : Known) (x first : Shown) (us : List Stamp) → x ≡ first → us ≡ [] → IsSo (front_of first) → first.seen.book ≡ known.book
+    → first.seen.log ≡ known.log → AreSo known.book (front_of x) (us ++ []) × ((fold stamped (front_of x) (us ++ [])).edition ≡ shown_at known.log)
+opens_so known x first us is none so book log = subst
+    (λ (p : Shown × List Stamp). AreSo known.book (front_of p.0) (p.1 ++ []) × ((fold stamped (front_of p.0) (p.1 ++ [])).edition ≡ shown_at known.log))
+    (λ j. (sym is j, sym none j)) ((so, book), so.0 ∙ ap shown_at log)
 
 -- one moment more is written down, and what was owed until then waits
 pub sound_more : (known : Known) (x : Shown) (us : List Stamp) (mark : Mark) (sound : IsSound known x us mark) (n : Moment) (s : Stamp)
@@ -68,3 +85,16 @@ all_shown known x us mark sound none = ap (λ (l : List Stamp). (fold stamped (f
 pub either_way : {T E C : Type 0} {P P' : T → Type 0} {Q Q' : E → Type 0} (r : Result T E) → MatchResult r P Q → MatchResult r P' Q' → ((x : T) → P x → P' x → C) → ((e : E) → Q e → Q' e → C) → C
 either_way (Ok x) a b f g = f x a b
 either_way (Err e) a b f g = g e a b
+
+-- where it succeeded
+pub only_ok : {T E C : Type 0} {P P' : T → Type 0} {Q Q' : E → Type 0} (r : Result T E) → is_ok r ≡ true → MatchResult r P Q → MatchResult r P' Q' → ((x : T) → P x → P' x → C) → C
+only_ok (Ok x) e a b f = f x a b
+only_ok (Err e) h a b f = absurd (cc h)
+
+pub on_ok : {T E : Type 0} {P : T → Type 0} {Q : E → Type 0} (C : Type 0) (r : Result T E) → MatchResult r P Q → ((x : T) → P x → C) → OnOk r C
+on_ok C (Ok x) a f = f x a
+on_ok C (Err e) a f = tt
+
+pub when_ok : {T E : Type 0} (r : Result T E) (P : Type 0) → OnOk r P → is_ok r ≡ true → P
+when_ok (Ok x) P h e = h
+when_ok (Err e) P h q = absurd (cc q)

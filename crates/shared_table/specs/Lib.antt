@@ -1,8 +1,13 @@
+pub use Rattle.logbook.specs.Pages
+pub use Rattle.node_books.specs.Books
+pub use Rattle.node_books.specs.Moments
+pub use Rattle.node_books.specs.Onward
 pub use Rattle.node_loop.specs.Coming
 pub use Rattle.node_loop.specs.Events
 pub use Rattle.node_loop.specs.Held
 pub use Rattle.node_loop.specs.Left
 pub use Rattle.node_loop.specs.NodeEventsSeen
+pub use Rattle.node_loop.specs.Openings
 pub use Rattle.node_loop.specs.Owing
 pub use Rattle.node_loop.specs.Sound
 pub use Rattle.node_loop.specs.Told

@@ -50,7 +50,7 @@ impl<T: Stamped> Outcome<T, Mark> for Takes {
 
 type Queue<T> = RuledArrayQueue<T, Mark, Same>;
 
-/// One thread's way to a queue. Contracts see the book that its items are of.
+/// One thread's way to a queue. Contracts see the book that its items are of, and the moments of it that all know who use the queue.
 #[derive(Drop)]
 pub struct Chute<T: Stamped> {
     queue: Arc<Queue<T>, Global>,
@@ -59,22 +59,22 @@ pub struct Chute<T: Stamped> {
 }
 
 impl<T: Stamped> Model for Chute<T> {
-    ghost use Rattle.logbook.specs.Pages.{Book};
+    ghost use Rattle.node_books.specs.Books.{Known};
     ghost use Rattle.shared_table.specs.Chutes.{IsChute};
 
-    ghost Value = { Book };
+    ghost Value = { Known };
 
-    ghost view = { λ c. c.origin.book };
+    ghost view = { λ c. record { book = c.origin.book; log = c.origin.log } };
 
     ghost invariant = { λ c. IsChute c.queue.value c.pass c.origin };
 }
 
 impl<T: Stamped> Chute<T> {
-    /// A queue with room for so many items, of the book of its first item.
+    /// A queue with room for so many items, of the book of its first item, of which this much is known.
     pub fn open(alloc: Global, room: usize, item: T, origin: Token) -> Result<Self, AllocError>
         requires room { 0 < room }
         requires stamped { (T.token item).book ≡ origin.book }
-        ensures { IfOk result (λ chute. chute ≡ origin.book) }
+        ensures { IfOk result (λ chute. chute ≡ record { book = origin.book; log = origin.log }) }
     {
         let (queue, mut pass): (Queue<T>, Pass<T, Mark>) = Queue::ruled(alloc, room)?;
         if queue.try_push_as::<Puts>(&mut pass, item).is_err() {
@@ -102,9 +102,17 @@ impl<T: Stamped> Chute<T> {
         })
     }
 
+    /// What all know who use it.
+    pub fn token(&self) -> Token
+        ensures book { result.book ≡ self.now.book }
+        ensures log { result.log ≡ self.now.log }
+    {
+        self.origin.again()
+    }
+
     /// Puts an item last. It comes back where there is no room, or another thread is in the way.
     pub fn put(&mut self, item: T) -> Result<(), T>
-        requires { (T.token item).book ≡ self.old }
+        requires { (T.token item).book ≡ self.old.book }
         ensures same { self.new ≡ self.old }
         ensures back { IfErr result (λ x. x ≡ item) }
     {
@@ -114,7 +122,7 @@ impl<T: Stamped> Chute<T> {
     /// Takes the oldest item, unless there is none, or another thread is in the way.
     pub fn take(&mut self) -> Option<T>
         ensures same { self.new ≡ self.old }
-        ensures stamped { IfSome result (λ x. (T.token x).book ≡ self.old) }
+        ensures stamped { IfSome result (λ x. (T.token x).book ≡ self.old.book) }
     {
         self.queue.try_pop_as::<Takes>(&mut self.pass)
     }

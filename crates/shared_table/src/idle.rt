@@ -1,7 +1,7 @@
 //! Readers that wait for a seat.
 ghost use Rattle.std.specs.Prelude.{◌≡◌};
 
-use crate::chute::Stamped;
+use crate::chute::{Chute, Stamped};
 use crate::rule::{Mark, OneBook};
 use crate::shown::Shown;
 use left_right::reader::Reader;
@@ -28,6 +28,9 @@ impl Model for Idle {
 
     ghost invariant = { λ i. IsOf i.origin.book (mark_at i.reader.place) × (i.origin.log ≡ []) };
 }
+
+/// The readers of a node's table that nobody has. They are lent, and go back where they are dropped.
+pub type IdleReaders = Chute<Idle>;
 
 impl Stamped for Idle {
     ghost token = { λ i. i };

@@ -1,12 +1,13 @@
 //! A publisher that a thread may own.
-ghost use Rattle.std.specs.Prelude.{◌≡◌, true};
+ghost use Rattle.std.specs.Prelude.{◌≡◌, ◌∷◌, ◌++◌, [], true, IfOk};
 ghost use Rattle.node_loop.specs.Owing.{shown_by};
 ghost use Rattle.node_loop.specs.Coming.{HandsOver};
+ghost use Rattle.node_books.specs.Moments.{moment};
 ghost use Rattle.shared_table.specs.Publishing.{Publishes};
 
-use crate::publisher::Publisher;
+use crate::publisher::{LastTable, Publisher};
 use name_table::Names;
-use node_books::Scribe;
+use node_books::{Past, Scribe, ScribeFault};
 use node_loop::{NodeLoop, Record};
 use std::alloc::Global;
 use std::sync::Wait;
@@ -52,6 +53,18 @@ impl<R: Wait + Drop> KeptPublisher<R> {
         }
         let (publisher, done) = publisher.publish(&rt);
         (KeptPublisher { publisher, rt }, done.is_ok())
+    }
+
+    /// Writes down how the loop stands at its end, as `Publisher::seal` does.
+    pub fn seal<N: Names<Memory = Global>, L: Record>(
+        self,
+        node: &NodeLoop<N, L>,
+    ) -> (LastTable, Result<Past, ScribeFault>)
+        requires { Publishes node.now self.publisher }
+        ensures { IfOk result.1 (λ past. past ≡ record self.publisher.known { log = self.publisher.known.log ++ moment true node.now ∷ [] }) }
+    {
+        let Self { publisher, rt: _rt } = self;
+        publisher.seal(node)
     }
 
     /// From then on readers find nothing. What was written of the node, and who writes on, comes back.

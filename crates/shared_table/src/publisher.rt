@@ -1,5 +1,5 @@
 //! Who publishes a node's table.
-ghost use Rattle.std.specs.Prelude.{◌≡◌, ◌<◌, ◌^◌, [], ◌∷◌, ◌++◌, false, drop, IfOk, OnOk, length as list_length};
+ghost use Rattle.std.specs.Prelude.{◌≡◌, ◌<◌, ◌^◌, [], ◌∷◌, ◌++◌, true, false, drop, IfOk, OnOk, OnErr, length as list_length};
 ghost use Rattle.logbook.specs.Pages.{Book};
 ghost use Rattle.node_loop.specs.Editions.{opening};
 ghost use Rattle.node_loop.specs.Owing.{shown_by};
@@ -9,12 +9,12 @@ ghost use Rattle.shared_table.specs.Publishing.{Progress, IsAllShown, IsSound, h
 ghost use Rattle.shared_table.specs.Rule.{mark_at};
 
 use crate::chute::Chute;
-use crate::idle::Idle;
+use crate::idle::{Idle, IdleReaders};
 use crate::rule::{Mark, Notes, OneBook, Publishes};
 use crate::shown::{Shown, Stamp};
 use left_right::writer::Writer;
 use name_table::Names;
-use node_books::{Scribe, Token};
+use node_books::{Past, Scribe, ScribeFault, Token};
 use node_loop::{NodeLoop, Record};
 use std::alloc::{AllocError, Global};
 use std::marker::Model;
@@ -29,16 +29,19 @@ pub struct Publisher {
     alloc: Global,
     writer: TableWriter,
     scribe: Scribe,
-    /// How many moments were written.
-    count: u64,
     /// That the book was opened.
     origin: Token,
     /// What found no place among what waits.
     held: Option<Stamp>,
 }
 
+/// A table that is published no more, and read still. It can't be dropped: `close` ends it.
+pub struct LastTable {
+    writer: TableWriter,
+}
+
 impl Model for Publisher {
-    ghost use Rattle.std.specs.Prelude.{◌≡◌, ◌++◌, [], drop, length as list_length};
+    ghost use Rattle.std.specs.Prelude.{◌≡◌, ◌++◌, [], drop};
     ghost use Rattle.shared_table.specs.Editions.{edition_of};
     ghost use Rattle.shared_table.specs.Publishing.{Progress, IsSound, held_back};
     ghost use Rattle.shared_table.specs.Rule.{mark_at};
@@ -47,7 +50,7 @@ impl Model for Publisher {
 
     ghost view = { λ p. record { known = p.scribe; shown = edition_of p.writer.desk.shown.value } };
 
-    ghost invariant = { λ p. (p.count ≡ list_length p.scribe.log) × (p.origin.book ≡ p.scribe.book) × (p.origin.log ≡ [])
+    ghost invariant = { λ p. (p.origin.book ≡ p.scribe.book) × (p.origin.log ≡ [])
         × IsSound p.scribe p.writer.desk.shown.value (drop p.writer.behind p.writer.log.items ++ held_back p.held) (mark_at p.writer.desk.place) };
 }
 
@@ -59,6 +62,17 @@ fn append(writer: &mut TableWriter, stamp: Stamp) -> Option<Stamp>
     match writer.append(stamp) {
         Ok(()) => None,
         Err(stamp) => Some(stamp),
+    }
+}
+
+/// Puts what was held back behind those that wait, if anything was. It is held back still where there is no memory.
+fn put_in(writer: &mut TableWriter, held: Option<Stamp>) -> Option<Stamp>
+    ensures desk { writer.new.desk ≡ writer.old.desk }
+    ensures waiting { drop writer.new.behind writer.new.log.items ++ held_back result ≡ drop writer.old.behind writer.old.log.items ++ held_back held }
+{
+    match held {
+        Some(stamp) => append(writer, stamp),
+        None => None,
     }
 }
 
@@ -94,7 +108,6 @@ impl Publisher {
             alloc,
             writer,
             scribe,
-            count: 1,
             origin,
             held: None,
         })
@@ -115,20 +128,27 @@ impl Publisher {
     }
 
     /// So many readers of the table, each of which waits for a seat.
-    pub fn readers(&mut self, many: usize) -> Result<Chute<Idle>, AllocError>
+    pub fn readers(&mut self, many: usize) -> Result<IdleReaders, AllocError>
         requires { 0 < many }
         ensures same { self.new ≡ self.old }
-        ensures readers { IfOk result (λ chute. chute ≡ self.old.known.book) }
+        ensures readers { IfOk result (λ readers. readers ≡ self.old.known) }
     {
         let first = self.idle()?;
-        let mut chute = Chute::open(self.alloc, many, first, self.origin.again())?;
+        let mut readers = Chute::open(self.alloc, many, first, self.scribe.token())?;
         for _ in 1..many {
             let idle = self.idle()?;
-            if chute.put(idle).is_err() {
+            if readers.put(idle).is_err() {
                 return Err(AllocError);
             }
         }
-        Ok(chute)
+        Ok(readers)
+    }
+
+    /// The length of the node's log up to which readers are shown all.
+    pub fn shown_length(&self) -> u64
+        ensures { result ≡ self.now.shown.length }
+    {
+        self.writer.published().length
     }
 
     /// That its node came to the moments that were written.
@@ -152,9 +172,8 @@ impl Publisher {
         ensures book { self.new.known.book ≡ self.old.known.book }
         ensures shown { self.new.shown ≡ self.old.shown }
     {
-        if let Some(stamp) = self.held.take() {
-            self.held = append(&mut self.writer, stamp);
-        }
+        let held = self.held.take();
+        self.held = put_in(&mut self.writer, held);
         if self.held.is_some() {
             return Err(AllocError);
         }
@@ -165,44 +184,67 @@ impl Publisher {
             node.owe_whole();
             return Err(AllocError);
         }
-        self.count += 1;
-        let seen = self.scribe.token();
-        let count = self.count;
-        self.held = append(&mut self.writer, Stamp { update, seen, count });
+        let stamp = Stamp {
+            update,
+            seen: self.scribe.token(),
+            count: self.scribe.count(),
+        };
+        self.held = append(&mut self.writer, stamp);
         if self.held.is_some() {
             return Err(AllocError);
         }
         Ok(())
     }
 
-    /// Publishes all updates that wait, if any does. It waits for readers that are in the midst of a look-up in the copy from before the last
-    /// publish. Where memory is refused, readers see what they saw, and the updates wait still.
+    /// Publishes all updates that wait, and nothing where none does. It waits for readers that are in the midst of a look-up in the copy from
+    /// before the last publish. Where memory is refused, or was refused for the last of them, readers see what they saw, and the updates wait
+    /// still.
     pub fn publish<R: Wait>(self, rt: &R) -> (Self, Result<(), AllocError>)
         ensures known { result.0.known ≡ self.known }
         ensures shown { OnOk result.1 (IsAllShown result.0) }
+        ensures unchanged { OnErr result.1 (result.0.shown ≡ self.shown) }
     {
+        if self.held.is_some() {
+            return (self, Err(AllocError));
+        }
+        if !self.writer.has_pending_operations() {
+            return (self, Ok(()));
+        }
         let Publisher {
             alloc,
             writer,
             scribe,
-            count,
             origin,
             held,
         } = self;
-        let is_held = held.is_some();
         let (writer, done) = writer.publish_as::<Publishes, R>(rt);
         let publisher = Publisher {
             alloc,
             writer,
             scribe,
-            count,
             origin,
             held,
         };
-        if is_held {
-            return (publisher, Err(AllocError));
-        }
         (publisher, done)
+    }
+
+    /// Writes down how the loop stands at its end: that is the last of the moments. Readers go on to see what they see.
+    pub fn seal<N: Names<Memory = Global>, L: Record>(
+        self,
+        node: &NodeLoop<N, L>,
+    ) -> (LastTable, Result<Past, ScribeFault>)
+        requires { Follows node.now self }
+        ensures { IfOk result.1 (λ past. past ≡ record self.known { log = self.known.log ++ moment true node.now ∷ [] }) }
+    {
+        let Publisher {
+            alloc: _,
+            writer,
+            scribe,
+            origin: _origin,
+            held: _held,
+        } = self;
+        let past = scribe.seal(node);
+        (LastTable { writer }, past)
     }
 
     /// Waits for readers that are in the midst of a look-up. From then on readers find nothing. What was written of the node, and who writes
@@ -214,11 +256,18 @@ impl Publisher {
             alloc: _,
             writer,
             scribe,
-            count: _,
             origin: _origin,
             held: _held,
         } = self;
         drop(writer.take(rt));
         scribe
+    }
+}
+
+impl LastTable {
+    /// Waits for readers that are in the midst of a look-up. From then on readers find nothing.
+    pub fn close<R: Wait>(self, rt: &R) {
+        let LastTable { writer } = self;
+        drop(writer.take(rt));
     }
 }

@@ -1,15 +1,15 @@
 //! Who looks names up in a node's table.
-ghost use Rattle.std.specs.Prelude.{◌≡◌, ◌<◌, ◌≤◌, [], max, MatchOption, Some, length as list_length};
+ghost use Rattle.std.specs.Prelude.{◌≡◌, ◌<◌, ◌≤◌, max, IfOk, IfSome, MatchOption, Some, length as list_length};
 ghost use Rattle.left_right.specs.Sides.{view};
 ghost use Rattle.node_books.specs.Moments.{shown_at};
 ghost use Rattle.shared_table.specs.Rule.{Token as AnyToken};
-ghost use Rattle.shared_table.specs.Readers.{Finds, IsFound, Reads};
+ghost use Rattle.shared_table.specs.Readers.{Finds, IsFound, Reads, unseen};
 
-use crate::chute::Chute;
-use crate::idle::{Idle, RuledReader};
+use crate::idle::{Idle, IdleReaders, RuledReader};
 use crate::rule::Enters;
 use name_table::Names;
 use node_books::Token;
+use std::alloc::AllocError;
 use std::marker::Model;
 use term::{Name, Pid};
 
@@ -27,11 +27,11 @@ pub enum Lookup {
     Gone,
 }
 
-/// How often a reader that isn't used any more is tried to be given back, while another thread is in the way.
+/// How often a reader is tried to be lent, or to be given back, while another thread is in the way.
 const TRIES: usize = 64;
 
-/// One reader of a node's table. Contracts see the book of the node and the moments that it has read, and the length of the node's log that it
-/// was told of or has read. Where it is dropped, its place goes back to the readers that wait.
+/// One reader of a node's table. Contracts see the node and its book, the moments that were read, and the length of the node's log that the
+/// reader was told of or has read. Where it is dropped, its place goes back to the readers that wait.
 pub struct TableReader {
     reader: Option<RuledReader>,
     origin: Token,
@@ -39,25 +39,41 @@ pub struct TableReader {
     /// How many moments it has read.
     count: u64,
     told: u64,
-    home: Chute<Idle>,
+    home: IdleReaders,
 }
 
 impl Model for TableReader {
-    ghost use Rattle.std.specs.Prelude.{◌≡◌, ◌≤◌, [], length as list_length};
+    ghost use Rattle.std.specs.Prelude.{◌≡◌, ◌≤◌, ◌<◌, [], length as list_length};
     ghost use Rattle.node_books.specs.Moments.{shown_at};
-    ghost use Rattle.shared_table.specs.Readers.{Seen, IsReaderOf};
+    ghost use Rattle.shared_table.specs.Readers.{Placed, IsReaderOf};
 
-    ghost Value = { Seen };
+    ghost Value = { Placed };
 
-    ghost view = { λ r. record { known = record { book = r.seen.book; log = r.seen.log }; told = r.told } };
+    ghost view = { λ r. record {
+      node = (shown_at r.home.log).node;
+      seen = record { known = record { book = r.seen.book; log = r.seen.log }; told = r.told };
+    } };
 
     ghost invariant = { λ r. IsReaderOf r.seen.book r.reader × (r.count ≡ list_length r.seen.log) × ((shown_at r.seen.log).length ≤ r.told)
-        × (r.origin.book ≡ r.seen.book) × (r.origin.log ≡ []) × (r.home ≡ r.seen.book) };
+        × (r.origin.book ≡ r.seen.book) × (r.origin.log ≡ []) × (r.home.book ≡ r.seen.book) × (0 < list_length r.home.log) };
+}
+
+/// Lends a reader, if one waits and no other thread is in the way all the time.
+fn lend(home: &mut IdleReaders) -> Option<Idle>
+    ensures same { home.new ≡ home.old }
+    ensures idle { IfSome result (λ idle. idle.book ≡ home.old.book) }
+{
+    for _ in 0..TRIES {
+        if let Some(idle) = home.take() {
+            return Some(idle);
+        }
+    }
+    None
 }
 
 /// Gives a reader back, if no other thread is in the way all the time.
-fn give_back(home: Chute<Idle>, idle: Idle)
-    requires { home ≡ idle.book }
+fn give_back(home: IdleReaders, idle: Idle)
+    requires { home.book ≡ idle.book }
 {
     let mut home = home;
     let mut waiting = idle;
@@ -116,34 +132,45 @@ fn enter(reader: RuledReader, name: &Name) -> (RuledReader, Option<Entry>)
 }
 
 impl TableReader {
-    /// One that has read nothing yet.
-    pub fn new(idle: Idle, home: Chute<Idle>) -> Self
-        requires { home ≡ idle.book }
-        ensures { result ≡ record { known = record { book = idle.book; log = [] }; told = 0 } }
+    /// One that has read nothing yet, lent from these. `AllocError`: none of them waits.
+    pub fn lent(home: IdleReaders) -> Result<Self, AllocError>
+        requires { 0 < list_length home.log }
+        ensures { IfOk result (λ reader. reader ≡ record { node = (shown_at home.log).node; seen = unseen home.book }) }
     {
-        let Idle { reader, origin } = idle;
+        let mut home = home;
+        let Some(Idle { reader, origin }) = lend(&mut home) else {
+            return Err(AllocError);
+        };
         let seen = origin.again();
-        TableReader {
+        Ok(TableReader {
             reader: Some(reader),
             origin,
             seen,
             count: 0,
             told: 0,
             home,
-        }
+        })
+    }
+
+    /// One more, which has read nothing yet. `AllocError`: none waits, or memory was refused.
+    pub fn another(&mut self) -> Result<Self, AllocError>
+        ensures same { self.new ≡ self.old }
+        ensures another { IfOk result (λ reader. reader ≡ record { node = self.old.node; seen = unseen self.old.seen.known.book }) }
+    {
+        TableReader::lent(self.home.another()?)
     }
 
     /// The moments that it has read.
     pub fn token(&self) -> Token
-        ensures book { result.book ≡ self.now.known.book }
-        ensures log { result.log ≡ self.now.known.log }
+        ensures book { result.book ≡ self.now.seen.known.book }
+        ensures log { result.log ≡ self.now.seen.known.log }
     {
         self.seen.again()
     }
 
     /// It is told that the node's log has this length: a look-up answers from no shorter one then.
     pub fn learn(&mut self, length: u64)
-        ensures { self.new ≡ record self.old { told = max self.old.told length } }
+        ensures { self.new ≡ record self.old { seen = record self.old.seen { told = max self.old.seen.told length } } }
     {
         self.told = self.told.max(length);
     }
@@ -151,15 +178,17 @@ impl TableReader {
     /// It has read in the last of these moments, which shows no less than what it was told of. That may be an earlier one than the last that it
     /// knows, which then shows the same.
     fn know(&mut self, seen: Token, count: u64, length: u64)
-        requires book { seen.book ≡ self.old.known.book }
+        requires book { seen.book ≡ self.old.seen.known.book }
         requires count { count ≡ list_length seen.log }
         requires some { 0 < count }
         requires long { length ≡ (shown_at seen.log).length }
-        requires late { self.old.told ≤ length }
-        ensures reads { Reads self.old self.new }
-        ensures shows { shown_at self.new.known.log ≡ shown_at seen.log }
+        requires late { self.old.seen.told ≤ length }
+        ensures node { self.new.node ≡ self.old.node }
+        ensures reads { Reads self.old.node self.old.seen self.new.seen }
+        ensures shows { shown_at self.new.seen.known.log ≡ shown_at seen.log }
     {
-        let mut both = self.seen.again();
+        let mut both = self.home.token();
+        both.learn(&self.seen);
         both.learn(&seen);
         self.told = length;
         if self.count < count {
@@ -171,7 +200,8 @@ impl TableReader {
     /// Looks a name up in the table of its node as it was after a number of its steps: no fewer than the reader was told of, and than it has
     /// seen before. It waits for nobody.
     pub fn whereis(&mut self, name: &Name) -> Lookup
-        ensures { Finds result name.now self.old self.new }
+        ensures node { self.new.node ≡ self.old.node }
+        ensures finds { Finds result self.old.node name.now self.old.seen self.new.seen }
     {
         let Some(reader) = self.reader.take() else {
             return Lookup::Gone;
@@ -190,6 +220,8 @@ impl TableReader {
         else {
             return Lookup::Gone;
         };
+        let mut both = self.home.token();
+        both.learn(&seen);
         if length < self.told {
             return Lookup::Behind;
         }
