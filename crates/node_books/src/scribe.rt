@@ -99,13 +99,6 @@ impl Scribe {
         self.seen.again()
     }
 
-    /// How many moments have been written down.
-    pub fn count(&self) -> u64
-        ensures { result ≡ length self.now.log }
-    {
-        self.count
-    }
-
     /// Writes down how the loop stands, which came there from the last moment. Where it can't nothing changes.
     pub fn add<N: Names<Memory = Global>, L: Record>(
         &mut self,

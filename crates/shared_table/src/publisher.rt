@@ -29,6 +29,8 @@ pub struct Publisher {
     alloc: Global,
     writer: TableWriter,
     scribe: Scribe,
+    /// How many moments were written.
+    count: u64,
     /// That the book was opened.
     origin: Token,
     /// What found no place among what waits.
@@ -41,7 +43,7 @@ pub struct LastTable {
 }
 
 impl Model for Publisher {
-    ghost use Rattle.std.specs.Prelude.{◌≡◌, ◌++◌, [], drop};
+    ghost use Rattle.std.specs.Prelude.{◌≡◌, ◌++◌, [], drop, length as list_length};
     ghost use Rattle.shared_table.specs.Editions.{edition_of};
     ghost use Rattle.shared_table.specs.Publishing.{Progress, IsSound, held_back};
     ghost use Rattle.shared_table.specs.Rule.{mark_at};
@@ -50,7 +52,7 @@ impl Model for Publisher {
 
     ghost view = { λ p. record { known = p.scribe; shown = edition_of p.writer.desk.shown.value } };
 
-    ghost invariant = { λ p. (p.origin.book ≡ p.scribe.book) × (p.origin.log ≡ [])
+    ghost invariant = { λ p. (p.count ≡ list_length p.scribe.log) × (p.origin.book ≡ p.scribe.book) × (p.origin.log ≡ [])
         × IsSound p.scribe p.writer.desk.shown.value (drop p.writer.behind p.writer.log.items ++ held_back p.held) (mark_at p.writer.desk.place) };
 }
 
@@ -108,6 +110,7 @@ impl Publisher {
             alloc,
             writer,
             scribe,
+            count: 1,
             origin,
             held: None,
         })
@@ -174,7 +177,7 @@ impl Publisher {
     {
         let held = self.held.take();
         self.held = put_in(&mut self.writer, held);
-        if self.held.is_some() {
+        if self.held.is_some() || self.count == u64::MAX {
             return Err(AllocError);
         }
         let Some(update) = node.next_update(self.alloc)? else {
@@ -184,10 +187,11 @@ impl Publisher {
             node.owe_whole();
             return Err(AllocError);
         }
+        self.count += 1;
         let stamp = Stamp {
             update,
             seen: self.scribe.token(),
-            count: self.scribe.count(),
+            count: self.count,
         };
         self.held = append(&mut self.writer, stamp);
         if self.held.is_some() {
@@ -214,6 +218,7 @@ impl Publisher {
             alloc,
             writer,
             scribe,
+            count,
             origin,
             held,
         } = self;
@@ -222,6 +227,7 @@ impl Publisher {
             alloc,
             writer,
             scribe,
+            count,
             origin,
             held,
         };
@@ -240,6 +246,7 @@ impl Publisher {
             alloc: _,
             writer,
             scribe,
+            count: _,
             origin: _origin,
             held: _held,
         } = self;
@@ -256,6 +263,7 @@ impl Publisher {
             alloc: _,
             writer,
             scribe,
+            count: _,
             origin: _origin,
             held: _held,
         } = self;
