@@ -63,7 +63,14 @@ pub fn open_node(
         mailbox,
         rest,
     } = open_inbox(alloc, node, book, yields)?;
-    let caller = Caller::new(hub, &standing, &mut address, reader, Place::own(index), yields)?;
+    let caller = Caller::new(
+        hub,
+        &standing,
+        &mut address,
+        reader,
+        Place::own(index),
+        yields,
+    )?;
     let host = Host::new(own, standing, rest);
     Ok(Opened {
         address,

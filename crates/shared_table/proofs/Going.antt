@@ -25,7 +25,6 @@ goes_on p a b h comes owes = (follows_on p.known.log a b h.0 comes owes, owes)
 pub by_handing_over : (a b : Looping) → HandsOver a b → ComesFrom a b
 by_handing_over a b h = comes_by a a b (comes_from_itself a) (inr (inr h))
 
-
 -- it has handed replies out alone
 pub aside : (p : Progress) (a b : Looping) → Publishes a p → ComesFrom a b → b ≡ record a { desk = record a.desk { replies = [] } } → Publishes b p
 aside p a b h comes is = goes_on p a b h comes

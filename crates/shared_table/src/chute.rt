@@ -2,10 +2,10 @@
 ghost use Rattle.std.specs.Prelude.{◌≡◌, ◌<◌, IfOk, IfSome, OnOk, IfErr};
 ghost use Rattle.shared_table.specs.Chutes.{IsChute};
 
-use node_books::Token;
 use crate::rule::{Mark, Notes};
 use crossbeam_queue::protocol::{Outcome, Protocol};
 use crossbeam_queue::{Pass, RuledArrayQueue};
+use node_books::Token;
 use std::alloc::{AllocError, Global};
 use std::marker::Model;
 use std::sync::Arc;
