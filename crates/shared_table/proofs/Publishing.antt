@@ -1,6 +1,6 @@
 -- What a publisher holds, from one call to the next.
-use Rattle.std.proofs.Common.{◌≡◌, ◌+◌, ◌<◌, ℕ, true, false, List, [], ◌∷◌, ◌++◌, length, Option, Some, Ok, Err, sym, refl, ap, ◌∙◌, subst, arith, append-nil, length-append}
-use Rattle.std.specs.Prelude.{Result, MatchResult, OnOk, is_ok}
+use Rattle.std.proofs.Common.{◌≡◌, ◌+◌, ◌<◌, ℕ, true, false, List, [], ◌∷◌, ◌++◌, length, Option, Some, None, Ok, Err, sym, refl, ap, ◌∙◌, subst, arith, append-nil, length-append}
+use Rattle.std.specs.Prelude.{Result, MatchResult, OnOk, is_ok, is_some}
 use Rattle.std.specs.List.{fold}
 use Rattle.left_right.specs.Register.{TurnsAt}
 use Rattle.node_loop.specs.declared.edit.Edition.{Edition}
@@ -15,7 +15,7 @@ use Rattle.shared_table.specs.declared.shown.Front.{Front}
 use Rattle.shared_table.specs.declared.shown.Stamp.{Stamp}
 use Rattle.shared_table.specs.Editions.{edition_of, front_of, stamped, IsSo}
 use Rattle.shared_table.specs.Rule.{Token, IsOf, Keeps, Marks}
-use Rattle.shared_table.specs.Publishing.{Progress, AreSo, IsSound, IsAllShown}
+use Rattle.shared_table.specs.Publishing.{AreSo, IsSound, held_back}
 use Rattle.shared_table.proofs.Keeping.{marks, so_behind, so_first, so_front, so_rest, so_snoc, fold_snoc, fold_append}
 
 abbrev Mark : Type 0
@@ -98,3 +98,7 @@ on_ok C (Err e) a f = tt
 pub when_ok : {T E : Type 0} (r : Result T E) (P : Type 0) → OnOk r P → is_ok r ≡ true → P
 when_ok (Ok x) P h e = h
 when_ok (Err e) P h q = absurd (cc q)
+
+pub none_held : (held : Option Stamp) → is_some held ≡ false → held_back held ≡ []
+none_held None e = refl
+none_held (Some s) e = absurd (cc e)

@@ -98,8 +98,9 @@ impl Publisher {
         if scribe.add(node).is_err() {
             return Err(AllocError);
         }
-        let first = Shown::new(alloc, node.node(), scribe.token(), 1);
-        let second = Shown::new(alloc, node.node(), scribe.token(), 1);
+        let seen = scribe.token();
+        let first = Shown::new(alloc, node.node(), seen.again(), 1);
+        let second = Shown::new(alloc, node.node(), seen, 1);
         let writer: TableWriter = Writer::new(alloc, first, second, places)?;
         let (writer, done) = writer.publish_as::<Publishes, R>(rt);
         if done.is_err() {

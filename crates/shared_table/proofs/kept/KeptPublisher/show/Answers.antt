@@ -1,0 +1,18 @@
+use Rattle.std.proofs.Common.{◌≡◌, ◌∙◌, true, not, ap, sym, subst}
+use Rattle.std.specs.Prelude.{is_ok}
+use Rattle.node_loop.specs.Owing.{shown_by}
+use Rattle.node_books.specs.Books.{Known}
+use Rattle.node_books.specs.Moments.{Follows, shown_at}
+use Rattle.node_loop.specs.Owing.{Owes}
+use Rattle.shared_table.proofs.Publishing.{when_ok}
+use Rattle.shared_table.proofs.kept.KeptPublisher.show.Goals as goal
+
+pub returns-clause-publishes : goal.returns-clause-publishes
+returns-clause-publishes g c = subst (λ (k : Known). Follows k.log c.note.new.node × Owes c.note.new.node (shown_at k.log))
+    (sym c.publish-publisher.ensures.known) c.note.ensures.follows
+
+pub returns-clause-shown : goal.returns-clause-shown
+returns-clause-shown g c = λ done.
+    when_ok c.publish-publisher.result.1 _ c.publish-publisher.ensures.shown (sym c.is_ok.ensures ∙ done)
+    ∙ (ap (λ (k : Known). shown_at k.log) c.publish-publisher.ensures.known
+    ∙ when_ok c.note.result _ c.note.ensures.ok (c.is_err.ensures.negation ∙ ap not c.if-is_err.false))
