@@ -4,7 +4,10 @@ use Rattle.shared_table.specs.declared.Edition.{Edition}
 use Rattle.shared_table.specs.Coming.{begun, IsLoopOf}
 use Rattle.shared_table.specs.Openings.{opening_core}
 use Rattle.shared_table.specs.Moments.{shown_at}
-use Rattle.shared_table.specs.Readers.{Seen, Reads}
+use Rattle.registry_model.specs.Process.{Text}
+use Rattle.shared_table.specs.declared.reader.Lookup.{Lookup}
+use Rattle.shared_table.specs.declared.reader.Lookup.TheVariants.{Owner, Left, Behind, Gone}
+use Rattle.shared_table.specs.Readers.{Seen, Reads, Finds}
 use Rattle.shared_table.proofs.Reading.{loop_at}
 use Rattle.node_seats.specs.Replies.{HasShown}
 
@@ -24,3 +27,10 @@ read_told name old new R =
       came = subst (λ (n : ℕ). IsLoopOf n at.0) R.own at.1;
       long = ap (λ (e : Edition). e.length) (sym at.2) ∙ sym R.told;
     } ∣₁
+
+-- whatever came of a look-up
+pub still_told : (r : Lookup) (name : ℕ) (x : Text) (old new : Seen) → Finds r name x old new → HasShown name old.told → HasShown name new.told
+still_told (Owner owner) name x old new f h = read_told name old new f.0
+still_told Left name x old new f h = read_told name old new f.0
+still_told Behind name x old new f h = subst (λ (s : Seen). HasShown name s.told) (sym f.same) h
+still_told Gone name x old new f h = subst (λ (s : Seen). HasShown name s.told) (sym f) h
