@@ -3,7 +3,9 @@ mod Choosing
 mod Heeding
 mod Leaving
 mod LockCalls
+pub mod Looking
 pub mod Meaning
+mod Repeating
 mod Talking
+pub mod Trying
 pub mod Unasked
-pub mod Waiting

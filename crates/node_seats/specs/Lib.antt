@@ -5,6 +5,7 @@ pub mod Faults
 pub mod Replies
 pub mod Callers
 pub mod Seats
+pub mod Knowing
 pub mod Holders
 pub mod Stops
 pub mod Departures

@@ -9,11 +9,13 @@ ghost use Rattle.node_seats.specs.Replies.{HasLeft};
 ghost use Rattle.node_seats.specs.declared.fault.SeatFault.TheVariants.{NoSuchNode};
 ghost use Rattle.node_seats.specs.Callers.{nodes_of, IsEnd};
 ghost use Rattle.node_seats.specs.Faults.{IsAskRefused, IsUnmade};
+ghost use Rattle.node_seats.specs.Knowing.{known_at, with_known};
 
 use crate::beside::{Beside, Nobody};
 use crate::caller::Caller;
 use crate::calls::copied_call;
 use crate::fault::SeatFault;
+use crate::knowledge::Knowledge;
 use crate::notes::{KeptNotes, Notes};
 use crate::told::NodeStatus;
 use shared_table::{Call, Event, Reply, SeatEntry, Transcript, WorldEvent};
@@ -106,6 +108,21 @@ impl<T: Notes> Seat<T> {
         ensures { result.now ≡ self.now.node }
     {
         self.caller.node()
+    }
+
+    /// What it knows of its node, so that another seat of the node may know it, too.
+    pub fn knowledge(&self) -> Knowledge
+        ensures { result ≡ known_at self.now }
+    {
+        self.caller.knowledge()
+    }
+
+    /// It knows from now on what is known of its node, from another of its seats: it looks names up in no older table.
+    pub fn learn(&mut self, known: &Knowledge)
+        requires { known.now.node ≡ self.old.node }
+        ensures { self.new ≡ with_known known.now self.old }
+    {
+        self.caller.learn(known);
     }
 
     /// Calls the node, once, and waits for the reply, which the node's loop told this seat. The call and its answer then stand last in
