@@ -1,7 +1,9 @@
+pub mod Asking
 mod Behind
 mod Choosing
 mod Heeding
 mod Leaving
+pub mod Lending
 mod LockCalls
 pub mod Looking
 pub mod Meaning

@@ -46,7 +46,7 @@ impl<'a, C: Client + Drop, B> Borrower<'a, C, B> {
     }
 
     /// Has an order carried out at a seat that is lent for it. Nobody waits there for what comes some day.
-    #[tactic(auto, using(crate::proofs::Unasked::ended))]
+    #[tactic(auto, using(crate::proofs::Lending::given, crate::proofs::Lending::not_given))]
     pub(crate) fn ask_at_seat<H: Wait + Clock>(
         &mut self,
         rt: &H,

@@ -86,7 +86,7 @@ impl<'a, C: Client + Drop, B> Borrower<'a, C, B> {
     }
 
     /// Looks a name up at a seat that is lent for it: what who waits is answered, unless it is to be looked up again.
-    #[tactic(auto, using(crate::proofs::Unasked::ended))]
+    #[tactic(auto, using(crate::proofs::Unasked::ended, crate::proofs::Lending::looked_past, crate::proofs::Lending::looking_ended))]
     fn look_once<H>(&mut self, rt: &H, awaited: &Awaited) -> Option<Result<Reply, SeatFault>>
     where
         B: House<H>,

@@ -103,6 +103,7 @@ fn longer(pause: u64) -> u64 {
 
 impl<'a, C: Client + Drop, B> Borrower<'a, C, B> {
     /// Calls the node.
+    #[tactic(auto, using(crate::proofs::Asking::tries_answer, crate::proofs::Asking::calls_answer))]
     pub(crate) fn call<H: Wait + Clock>(
         &mut self,
         rt: &H,
@@ -116,11 +117,13 @@ impl<'a, C: Client + Drop, B> Borrower<'a, C, B> {
         if sets_lock(&call) {
             return self.set_lock(rt, &call, linked);
         }
-        match &call {
-            Call::DelLock(..) => self.delete_lock(rt, call),
-            Call::Join(_) => self.join(rt, call),
-            _ => self.ask_at_seat(rt, Order::Call(call)),
+        if matches!(call, Call::DelLock(..)) {
+            return self.delete_lock(rt, call);
         }
+        if matches!(call, Call::Join(_)) {
+            return self.join(rt, call);
+        }
+        self.ask_at_seat(rt, Order::Call(call))
     }
 
     /// Asks for a lock: in its turn where it is retried without end, and else at once.
@@ -299,16 +302,15 @@ impl<'a, C: Client + Drop, B> Borrower<'a, C, B> {
         ensures { IfErr result IsEnd }
     {
         let mut left = pause;
-        while left > 0 {
-            let part = left.min(LOOK);
-            sleep(rt, turn, part);
+        for _ in 0..pause.div_ceil(LOOK) {
+            sleep(rt, turn, left.min(LOOK));
             if let Some(fault) = self.why_give_up(rt, linked) {
                 return Err(fault);
             }
             if was_freed(turn) {
                 return Ok(FIRST_PAUSE);
             }
-            left -= part;
+            left = left.saturating_sub(LOOK);
         }
         Ok(longer(pause))
     }

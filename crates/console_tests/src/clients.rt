@@ -50,7 +50,7 @@ impl Home {
         ensures none { IfErr result IsEnd }
     {
         match self.take_seat(rt) {
-            Some(seat) if seat.node() == node => Ok(seat),
+            Some(seat) if *seat.node() == *node => Ok(seat),
             _ => Err(SeatFault::Closed),
         }
     }

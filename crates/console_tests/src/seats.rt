@@ -153,15 +153,7 @@ fn hold<H: Wait + Clock, C: Client + Drop>(
             let mut written = Vec::new(alloc);
             let node = seat.node().copy();
             let home = Home::new(alloc, seat);
-            let result = serve_staying(
-                rt,
-                alloc,
-                &mut reader,
-                &mut written,
-                node,
-                client,
-                &home,
-            );
+            let result = serve_staying(rt, alloc, &mut reader, &mut written, node, client, &home);
             let is_due = match result {
                 Ok(end) => end == wanted && written.as_slice() == text,
                 Err(_) => false,

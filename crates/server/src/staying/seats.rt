@@ -117,9 +117,8 @@ impl Lending {
 
     /// The bell of who has this number, if there are any.
     fn bell(&self, number: u64) -> Option<&Parker> {
-        let many = u64::try_from(self.bells.len()).ok()?;
-        let place = number.checked_rem(many)?;
-        self.bells.get(usize::try_from(place).ok()?)
+        let place = number.checked_rem(self.bells.len() as u64)?;
+        self.bells.get(place as usize)
     }
 
     /// Lends a seat, once one is free, and all that asked before have theirs.
@@ -225,7 +224,7 @@ impl Seats {
             return Err(SeatFault::Closed);
         };
         let seat = lending.lend(rt);
-        if seat.node() == node {
+        if *seat.node() == *node {
             return Ok(seat);
         }
         lending.put(rt, seat);
