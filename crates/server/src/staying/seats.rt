@@ -203,7 +203,8 @@ impl Seats {
         let many = share(nodes.len());
         let mut lendings = Vec::new(alloc);
         for node in nodes.as_slice() {
-            lendings.push(lending_of(rt, alloc, cluster, node, many, waiters)?)?;
+            lendings.reserve(1)?;
+            lendings.push_reserved(lending_of(rt, alloc, cluster, node, many, waiters)?);
         }
         Ok(Seats { nodes: lendings })
     }
