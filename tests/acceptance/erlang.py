@@ -41,6 +41,8 @@ TOOLS = ["erl", "erlc", "epmd", "make"]
 # How many tenths of a second an epmd is waited for.
 MOST_WAITED = 100
 LOWER = ["nice", "-n", "10"]
+# Where nodes find the addresses of hosts: they ask no resolver of the system's.
+HOSTS = '{host, {127,0,0,1}, ["localhost"]}.\n{lookup, [file]}.\n'
 
 
 def left_out(program):
@@ -76,7 +78,10 @@ def erlang_of_its_own(folder, **more):
     port = str(free_port())
     home = os.path.join(folder, f"home_{port}")
     os.mkdir(home)
-    environment = {**os.environ, **more, "HOME": home, "ERL_EPMD_PORT": port, "ERL_EPMD_ADDRESS": "127.0.0.1"}
+    hosts = os.path.join(home, "hosts")
+    with open(hosts, "w") as it:
+        it.write(HOSTS)
+    environment = {**os.environ, **more, "HOME": home, "ERL_INETRC": hosts, "ERL_EPMD_PORT": port, "ERL_EPMD_ADDRESS": "127.0.0.1"}
     quiet = {"stdin": subprocess.DEVNULL, "stdout": subprocess.DEVNULL, "stderr": subprocess.DEVNULL}
     epmd = subprocess.Popen(["epmd", "-address", "127.0.0.1", "-port", port], env=environment, cwd=home, **quiet)
     try:

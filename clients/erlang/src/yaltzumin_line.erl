@@ -1,4 +1,4 @@
-%% @doc Lines of the program `cluster_main node': what it is told, and what it prints. docs/PORT.md says what each means.
+%% @doc Lines of the program `cluster_main node': what it is told, and what it prints.
 -module(yaltzumin_line).
 -export([ask/2, letter/2, down/1, started/1, founds/0, tick/0]).
 -export([read/1, mentions/1, asks_global/1]).
