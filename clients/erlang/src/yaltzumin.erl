@@ -95,7 +95,7 @@ set_lock(Id, Nodes) ->
 %% given back when it was deleted as often as it was set, or when the process ends.
 -spec set_lock(id(), all | [node()], retries()) -> boolean().
 set_lock({Resource, Requester}, Nodes, Retries) when Retries =:= infinity; is_integer(Retries), Retries >= 0 ->
-    try_lock(yaltzumin_text:of_resource(Resource), yaltzumin_text:of_term(Requester), Nodes, Retries, 1).
+    try_lock(yaltzumin_text:of_resource(Resource), yaltzumin_text:of_term(Requester), asked(Nodes), Retries, 1).
 
 try_lock(Resource, Requester, Nodes, infinity, _) ->
     lock(Resource, Requester, Nodes, <<"infinity">>);
@@ -127,8 +127,11 @@ del_lock(Id) ->
 %% @doc Takes back one time that the calling process has set a lock, at all members or at those of these nodes.
 -spec del_lock(id(), all | [node()]) -> true.
 del_lock({Resource, Requester}, Nodes) ->
-    _ = call({del_lock, yaltzumin_text:of_resource(Resource), yaltzumin_text:of_term(Requester), Nodes}),
+    _ = call({del_lock, yaltzumin_text:of_resource(Resource), yaltzumin_text:of_term(Requester), asked(Nodes)}),
     true.
+
+asked(all) -> all;
+asked(Nodes) -> lists:usort(Nodes).
 
 %% @equiv trans(Id, Fun, all, infinity)
 -spec trans(id(), fun(() -> Result)) -> Result | aborted.

@@ -3,8 +3,9 @@
 %% node wait for its hello. What the program is to be told of nodes is given back as its lines.
 -module(yaltzumin_peers).
 -export([new/4, me/1, is_joined/1, members/1, told/1, set_state/3]).
--export([survey/2, tell/2, greet/2, greet_all/2, greeted/2, left/2, told_left/2, lost/2, asked/2, has_left/2]).
--export([carry/4, contact/1, connect/2, is_synchronous/2]).
+-export([survey/2, asked/2, greet/2, greet_all/2, greeted/2]).
+-export([left/2, has_left/2, refuse/2, parted/2]).
+-export([carry/4, contact/1, is_synchronous/2]).
 
 -export_type([peers/0, hello/0, parted/0, standing/0]).
 
@@ -14,8 +15,8 @@
 %% How a node stands: who it is, whether it is joined, its members, and who it was told has left.
 -type hello() :: #{node := node(), pid := pid(), text := text(), joined := boolean(), members := [node()], told := [text()],
                    knows := text() | none, answer := boolean()}.
--type parted() :: #{node := node(), joined := boolean(), members := [node()], left := text()}.
-%% The sender was told that a node has left which lives.
+-type parted() :: #{node := node(), text := text(), joined := boolean(), members := [node()], left := text(), answer := boolean()}.
+%% The sender was told that a node has left, which lives.
 
 -record(peer, {text :: text(), pid :: pid(), members :: [node()] | lone, linked :: boolean()}).
 -record(peers, {world :: [node()],
@@ -62,19 +63,21 @@ set_state(Joined, Members, Peers) ->
 
 %% ------------------------------------------------------------------------------------------------------------ the start
 
-%% @doc Connects to these nodes, at most for some seconds.
--spec connect([node()], timeout()) -> ok.
-connect(Nodes, Timeout) ->
+%% Connects to these nodes, at most for some seconds.
+connect(Nodes) ->
+    Until = until(?CONNECTING),
     Refs = [element(2, spawn_monitor(net_kernel, connect_node, [Node])) || Node <- Nodes],
-    [receive {'DOWN', Ref, process, _, _} -> ok after Timeout -> demonitor(Ref, [flush]) end || Ref <- Refs],
-    ok.
+    [receive {'DOWN', Ref, process, _, _} -> ok after left_until(Until) -> demonitor(Ref, [flush]) end || Ref <- Refs].
+
+until(Timeout) -> erlang:monotonic_time(millisecond) + Timeout.
+left_until(Until) -> max(0, Until - erlang:monotonic_time(millisecond)).
 
 %% @doc Asks the servers of all nodes that are connected how they stand: which creation this node is to be, and who has left. Of two
 %% sides that parted, the one counts that others come back to.
 -spec survey([node()], Connects :: boolean()) -> {Creation :: pos_integer(), AnyJoined :: boolean(), Told :: [text()]}.
 survey(World, Connects) ->
     Others = World -- [node()],
-    [connect(Others, ?CONNECTING) || Connects],
+    _ = Connects andalso connect(Others),
     Standings = ask_all([Node || Node <- Others, lists:member(Node, nodes())]),
     Creation = lists:max([0 | [creation(Text) || #{told := Told} <- Standings, Text <- Told]]) + 1,
     case lists:sort([{rank(Members), Told} || #{joined := true, members := Members, told := Told} <- Standings]) of
@@ -90,7 +93,7 @@ creation(Text) ->
     end.
 
 ask_all(Nodes) ->
-    gather(lists:foldl(fun ask/2, #{}, Nodes), [], erlang:monotonic_time(millisecond) + ?SURVEY).
+    gather(lists:foldl(fun ask/2, #{}, Nodes), [], until(?SURVEY)).
 
 ask(Node, Refs) ->
     Ref = monitor(process, {yaltzumin_server, Node}),
@@ -110,7 +113,7 @@ gather(Refs, Standings, Until) ->
             gather(maps:remove(Ref, Refs), [Standing | Standings], Until);
         {'DOWN', Ref, process, _, _} when is_map_key(Ref, Refs) ->
             gather(maps:remove(Ref, Refs), Standings, Until)
-    after max(0, Until - erlang:monotonic_time(millisecond)) ->
+    after left_until(Until) ->
         [demonitor(Ref, [flush]) || Ref <- maps:keys(Refs)],
         Standings
     end.
@@ -149,12 +152,10 @@ known_as(Node, #peers{nodes = Nodes}) ->
 
 %% @doc The server of another node says hello.
 -spec greeted(hello(), peers()) -> {iodata(), peers()}.
-greeted(#{node := Node, text := Text} = Hello, #peers{told = Told} = Peers) ->
+greeted(#{text := Text} = Hello, #peers{told = Told} = Peers) ->
     case is_map_key(Text, Told) orelse are_strangers(Hello, Peers) of
         true ->
-            #peers{joined = Joined, members = Members} = Peers,
-            Parted = #{node => node(), joined => Joined, members => Members, left => Text},
-            erlang:send({yaltzumin_server, Node}, {parted, Parted}, [noconnect]),
+            refuse(Text, Peers),
             {[], Peers};
         false ->
             case is_of_a_lesser_side(Hello, Peers) of
@@ -222,16 +223,30 @@ seen(#{joined := Joined, members := Members, knows := Knows}, Me, #peer{linked =
 
 %% ------------------------------------------------------------------------------------------------------------ departures
 
-%% @doc Another node was told that a node has left. Gives whether that is this one, and its side is the one that starts anew.
--spec told_left(parted(), peers()) -> stays | starts_anew.
-told_left(#{left := Me, node := Node, joined := Joined, members := Members}, #peers{me = Me} = Peers) ->
+%% @doc Tells a node that this one was told that it has left.
+-spec refuse(text(), peers()) -> ok.
+refuse(Text, Peers) ->
+    refuse(Text, true, Peers).
+
+refuse(Text, Answer, #peers{me = Me, joined = Joined, members = Members}) ->
+    Parted = #{node => node(), text => Me, joined => Joined, members => Members, left => Text, answer => Answer},
+    _ = erlang:send({yaltzumin_server, yaltzumin_text:node_of(Text)}, {parted, Parted}, [noconnect]),
+    ok.
+
+%% @doc Another node was told that a node has left. If that is this one, both live on two sides that parted, and one of the sides starts
+%% anew: that which isn't joined, or has the greater rank. Where that is the other's, it is told, as it may not know.
+-spec parted(parted(), peers()) -> stays | starts_anew.
+parted(#{left := Me, node := Node, text := Text, joined := Joined, members := Members, answer := Answer}, #peers{me = Me} = Peers) ->
     Theirs = {not Joined, rank(lists:usort([Node | Members]))},
     Ours = {not Peers#peers.joined, rank(lists:usort([node() | Peers#peers.members]))},
     case Ours > Theirs of
-        true -> starts_anew;
-        false -> stays
+        true ->
+            starts_anew;
+        false ->
+            _ = Answer andalso refuse(Text, false, Peers),
+            stays
     end;
-told_left(_, _) ->
+parted(_, _) ->
     stays.
 
 %% @doc The server of another node is gone, and so its node, behind all letters of it that came.
@@ -248,13 +263,11 @@ gone(Node, #peers{nodes = Nodes} = Peers) ->
         error -> {[], Peers}
     end.
 
-%% @doc These nodes have left, as another was told.
--spec tell([text()], peers()) -> {iodata(), peers()}.
+%% These nodes have left, as another was told.
 tell(Texts, Peers) ->
     lists:mapfoldl(fun lost/2, Peers, Texts).
 
-%% @doc A node has left: the program is told, once. Of those of its own name it knows.
--spec lost(text(), peers()) -> {iodata(), peers()}.
+%% A node has left: the program is told, once. Of those of its own name it knows.
 lost(Text, #peers{told = Told, me = Me} = Peers) when is_map_key(Text, Told); Text =:= Me ->
     {[], Peers};
 lost(Text, Peers0) ->

@@ -283,7 +283,7 @@ handle_info({'EXIT', Port, Why}, #state{port = Port} = State) ->
 handle_info({'EXIT', _, Why}, State) ->
     {stop, Why, State};
 handle_info({parted, Parted}, #state{peers = Peers} = State) ->
-    case yaltzumin_peers:told_left(Parted, Peers) of
+    case yaltzumin_peers:parted(Parted, Peers) of
         starts_anew -> {stop, {parted, maps:get(node, Parted)}, State};
         stays -> {noreply, State}
     end;
@@ -296,6 +296,8 @@ goes_on(State) ->
 told({letters, From, Letters, Known}, #state{peers = Peers} = State) ->
     case yaltzumin_peers:has_left(From, Peers) of
         true ->
+            %% It lives, or lived when it sent them: they are of a link that has ended.
+            yaltzumin_peers:refuse(From, Peers),
             State;
         false ->
             yaltzumin_table:learn(Known),

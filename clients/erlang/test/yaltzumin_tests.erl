@@ -90,3 +90,56 @@ owners_test() ->
     ?assertEqual(none, yaltzumin_owners:find(P, None)),
     {none, Ended} = yaltzumin_owners:ended(P, Spawning),
     ?assertMatch({[], ended, _}, yaltzumin_owners:spawned(P, <<"a.1">>, Ended)).
+
+%% Who is who, as the node `nonode@nohost' sees it.
+peers(Founds, Told) ->
+    {Lines, Peers} = yaltzumin_peers:new([node(), 'b@h', 'c@h'], <<"nonode@nohost">>, Founds, Told),
+    {iolist_to_binary(Lines), Peers}.
+
+hello(Node, Text, Members, Told) ->
+    #{node => Node, pid => self(), text => Text, joined => Members =/= lone, members => case Members of lone -> [Node]; _ -> Members end,
+      told => Told, knows => <<"nonode@nohost">>, answer => false}.
+
+greeted(Hello, Peers) ->
+    {Lines, Next} = yaltzumin_peers:greeted(Hello, Peers),
+    {iolist_to_binary(Lines), Next}.
+
+departures_test() ->
+    {<<>>, Founder} = peers(true, []),
+    ?assert(yaltzumin_peers:is_joined(Founder)),
+    %% What has left is told once, each older one of a name before.
+    {<<"down b@h\nstarted b@h/2\ndown b@h/2\n">>, Told} = peers(false, [<<"b@h/2">>, <<"b@h">>]),
+    ?assertEqual([<<"b@h">>, <<"b@h/2">>], yaltzumin_peers:told(Told)),
+    {<<"started b@h/3\n">>, Third} = greeted(hello('b@h', <<"b@h/3">>, lone, []), Told),
+    ?assertMatch({[], _}, yaltzumin_peers:greeted(hello('b@h', <<"b@h/2">>, lone, []), Third)),
+    {Gone, After} = yaltzumin_peers:left(self(), Third),
+    ?assertEqual(<<"down b@h/3\n">>, iolist_to_binary(Gone)),
+    ?assert(yaltzumin_peers:has_left(<<"b@h/3">>, After)),
+    ?assertMatch({[], _}, yaltzumin_peers:left(self(), After)).
+
+joins_test() ->
+    {<<>>, Lone} = peers(false, []),
+    ?assertEqual(none, yaltzumin_peers:contact(Lone)),
+    {<<>>, Met} = greeted(hello('b@h', <<"b@h">>, ['b@h', 'c@h'], []), Lone),
+    %% Not before it is linked with each member.
+    ?assertEqual(missing, yaltzumin_peers:contact(Met)),
+    {<<>>, Linked} = greeted((hello('c@h', <<"c@h">>, ['b@h', 'c@h'], []))#{pid => spawn(fun() -> ok end)}, Met),
+    ?assertMatch({join, <<"b@h">>}, yaltzumin_peers:contact(Linked)),
+    Joined = yaltzumin_peers:set_state(true, [<<"b@h">>, <<"c@h">>, <<"nonode@nohost">>], Linked),
+    ?assertEqual(none, yaltzumin_peers:contact(Joined)),
+    ?assert(yaltzumin_peers:is_synchronous(['b@h', 'c@h'], Joined)),
+    ?assertNot(yaltzumin_peers:is_synchronous(['d@h'], Joined)).
+
+%% Of two sides that parted the one that isn't joined starts anew, or that with fewer members, or that without the least node.
+sides_test() ->
+    {<<>>, Lone} = peers(false, []),
+    Joined = yaltzumin_peers:set_state(true, [<<"c@h">>, <<"nonode@nohost">>], Lone),
+    Parted = fun(Members, Left) ->
+        #{node => 'b@h', text => <<"b@h">>, joined => true, members => Members, left => Left, answer => false}
+    end,
+    Me = <<"nonode@nohost">>,
+    ?assertEqual(starts_anew, yaltzumin_peers:parted(Parted(['b@h'], Me), Lone)),
+    ?assertEqual(stays, yaltzumin_peers:parted(Parted(['b@h'], Me), Joined)),
+    ?assertEqual(starts_anew, yaltzumin_peers:parted(Parted(['b@h', 'd@h'], Me), Joined)),
+    ?assertEqual(starts_anew, yaltzumin_peers:parted(Parted(['b@h', 'd@h', 'e@h'], Me), Joined)),
+    ?assertEqual(stays, yaltzumin_peers:parted(Parted(['b@h', 'd@h', 'e@h'], <<"nonode@nohost/2">>), Joined)).
