@@ -412,10 +412,10 @@ shown({state, Joined, Members}, #state{peers = Before} = State) ->
     [yaltzumin_peers:greet_all(false, Peers) || Joined, not yaltzumin_peers:is_joined(Before)],
     State#state{peers = Peers};
 shown({kill, Process}, State) ->
-    exit(yaltzumin_table:pid_of(Process), kill),
+    ends(yaltzumin_table:find_pid(Process)),
     State;
 shown({notice, Process, Name, Other}, State) ->
-    yaltzumin_table:pid_of(Process) ! conflict(yaltzumin_table:term_of(Name), Other),
+    tells_of(yaltzumin_table:find_pid(Process), Name, Other),
     State;
 shown(wait, #state{ticks = none} = State) ->
     State#state{ticks = erlang:start_timer(?TICK, self(), tick)};
@@ -425,8 +425,18 @@ shown({_, Line}, State) ->
     logger:error("yaltzumin: the program printed ~ts", [Line]),
     State.
 
-conflict(Name, none) -> {global_name_conflict, Name};
-conflict(Name, Other) -> {global_name_conflict, Name, yaltzumin_table:pid_of(Other)}.
+%% A process that lost its name is killed, or told. It may have been dead for long.
+ends({ok, Pid}) -> exit(Pid, kill);
+ends(none) -> true.
+
+tells_of({ok, Pid}, Text, Other) ->
+    Name = yaltzumin_table:term_of(Text),
+    Pid ! case Other of
+        none -> {global_name_conflict, Name};
+        _ -> {global_name_conflict, Name, yaltzumin_table:pid_of(Other)}
+    end;
+tells_of(none, _, _) ->
+    none.
 
 %% ------------------------------------------------------------------------------------------------------------ the end
 

@@ -4,7 +4,7 @@
 -export([new/0]).
 -export([owner/1, names/0, own_names/0]).
 -export([put/2, remove/1, strike/1, drop/1, clear/0]).
--export([learn_term/2, learn_pid/2, learn/1, known/1, term_of/1, pid_of/1, sweep/1]).
+-export([learn_term/2, learn_pid/2, learn/1, known/1, term_of/1, pid_of/1, find_pid/1, sweep/1]).
 
 -export_type([known/0]).
 
@@ -140,6 +140,14 @@ term_of(Text) ->
 -spec pid_of(text()) -> pid().
 pid_of(Text) ->
     ets:lookup_element(?PIDS, Text, 2).
+
+%% @doc The process that a text stands for, unless that isn't known any more.
+-spec find_pid(text()) -> {ok, pid()} | none.
+find_pid(Text) ->
+    case ets:lookup(?PIDS, Text) of
+        [{_, Pid, _}] -> {ok, Pid};
+        [] -> none
+    end.
 
 learned(Table, Text, What) ->
     case ets:update_element(Table, Text, [{2, What}, {3, now_s()}]) of
