@@ -40,6 +40,8 @@ AT_ONCE = threading.Semaphore(2)
 TOOLS = ["erl", "erlc", "epmd", "make"]
 # How many tenths of a second an epmd is waited for.
 MOST_WAITED = 100
+# How many seconds the build may take.
+BUILDING = 300
 LOWER = ["nice", "-n", "10"]
 # Where nodes find the addresses of hosts: they ask no resolver of the system's.
 HOSTS = '{host, {127,0,0,1}, ["localhost"]}.\n{lookup, [file]}.\n'
@@ -55,14 +57,29 @@ def left_out(program):
     return None
 
 
-@functools.cache
-def built(root):
-    """Builds the application, its examples and tests, into a folder that goes with this program."""
-    folder = tempfile.TemporaryDirectory(prefix="yaltzumin_erlang_")
-    ended = run(["make", "-s", "-C", f"{root}/clients/erlang", f"EBIN={folder.name}", "tests"], 120)
-    if ended.returncode:
-        raise Failure(f"it isn't built: {(ended.stdout + ended.stderr).decode()[-500:]!r}")
-    return folder
+class Built:
+    """The application with its examples and tests, built once into a folder that goes with this program."""
+
+    def __init__(self, root):
+        self.root = root
+        self.lock = threading.Lock()
+        self.folder = self.why = None
+
+    def build(self):
+        """Builds it, and gives why it isn't, or nothing."""
+        self.folder = tempfile.TemporaryDirectory(prefix="yaltzumin_erlang_")
+        ended = run(["make", "-s", "-C", f"{self.root}/clients/erlang", f"EBIN={self.folder.name}", "tests"], BUILDING)
+        return f"it isn't built: {(ended.stdout + ended.stderr).decode()[-500:]!r}" if ended.returncode else None
+
+    def path(self):
+        """Where it is."""
+        with self.lock:
+            if not self.folder:
+                self.why = f"it isn't built within {BUILDING} seconds"
+                self.why = self.build()
+            if self.why:
+                raise Failure(self.why)
+            return self.folder.name
 
 
 def free_port():
@@ -110,20 +127,20 @@ def told(command, seconds, environment, home):
     return controller.returncode, said.decode(errors="replace").strip()
 
 
-def play(program, root, scenario):
+def play(program, built, scenario):
     words = ["-kernel", "logger_level", "emergency", "-run", "yaltzumin_scenarios", "main", scenario]
-    control(root, words, SCENARIOS[scenario], YALTZUMIN_PROGRAM=program.path)
+    control(built, words, SCENARIOS[scenario], YALTZUMIN_PROGRAM=program.path)
 
 
-def check(root):
+def check(built):
     """The tests of the application's own modules, which play no program."""
-    control(root, ["-eval", "case eunit:test(yaltzumin_tests) of ok -> halt(0); _ -> halt(1) end."], 60)
+    control(built, ["-eval", "case eunit:test(yaltzumin_tests) of ok -> halt(0); _ -> halt(1) end."], 60)
 
 
-def control(root, words, seconds, **environment):
+def control(built, words, seconds, **environment):
     """Runs a controller with these words, which has to end well."""
     with AT_ONCE:
-        folder = built(root).name
+        folder = built.path()
         with erlang_of_its_own(folder, **environment) as (own, home):
             status, said = told([*LOWER, "erl", "-noshell", "-pa", folder, *words], seconds, own, home)
     if status:
@@ -135,6 +152,7 @@ def tests(program, root):
     if why:
         print(f"erlang: left out, since {why}")
         return
-    yield Test("erlang/modules", functools.partial(check, root))
+    built = Built(root)
+    yield Test("erlang/modules", functools.partial(check, built))
     for scenario in SCENARIOS:
-        yield Test(f"erlang/{scenario}", functools.partial(play, program, root, scenario))
+        yield Test(f"erlang/{scenario}", functools.partial(play, program, built, scenario))

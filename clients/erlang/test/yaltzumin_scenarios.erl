@@ -257,25 +257,63 @@ has(Text, Word) ->
 
 %% A node comes back under its name: as its next creation, where the program runs such, and else it is refused.
 returns() ->
-    [A, B] = cluster(["g1", "g2"], ["g1", "g2", "g3"]),
-    C = start("g3"),
-    ok = run(C, ["g1", "g2", "g3"]),
-    settled([A, B, C]),
+    World = ["g1", "g2", "g3"],
+    [A, B, C] = cluster(World),
     {yes, _} = at(C, registered, [on_c]),
     kill(C),
     stop(C),
     gone([A, B], on_c),
     settled([A, B]),
     D = start("g3"),
-    case run(D, ["g1", "g2", "g3"]) of
+    case run(D, World) of
         ok ->
-            settled([A, B, D]),
-            {yes, Q} = at(D, registered, [on_c]),
-            expect("its name everywhere", [Q], owners([A, B, D], on_c)),
-            expect("its creation", <<"g3@localhost/2">>, maps:get(node, ask(D, info, [])));
+            came_back(A, B, D);
         {error, {yaltzumin, Why}} ->
             has(lists:flatten(io_lib:format("~0p", [Why])), "name_spent"),
-            {yes, _} = at(A, registered, [on_c])
+            {yes, _} = at(A, registered, [on_c]),
+            settled([A, B])
     end,
-    settled([A, B | [D || is_list(catch ask(D, members, []))]]),
     stopped([A, B, D]).
+
+%% It is a member, and is one again when its program was killed, when all its connections were cut, and under kills by chance.
+came_back(A, B, C) ->
+    Nodes = [A, B, C],
+    settled(Nodes),
+    expect("its creation", <<"g3@localhost/2">>, maps:get(node, ask(C, info, []))),
+    {yes, P} = at(C, registered, [on_c]),
+    expect("its name everywhere", [P], owners(Nodes, on_c)),
+    os:cmd("kill -9 " ++ integer_to_list(program_pid(C))),
+    until(fun() -> creation(C) =:= <<"g3@localhost/3">> end),
+    settled(Nodes),
+    until(fun() -> owners(Nodes, on_c) =:= [P] end),
+    [call(C, erlang, disconnect_node, [name(Node)]) || Node <- [A, B]],
+    until(fun() -> ask(C, members, []) =:= [name(C)] andalso length(ask(A, members, [])) =:= 2 end),
+    {yes, _} = at(C, registered, [both]),
+    {yes, Q} = at(A, registered, [both]),
+    [call(C, net_kernel, connect_node, [name(Node)]) || Node <- [A, B]],
+    until(fun() -> creation(C) =:= <<"g3@localhost/4">> end),
+    settled(Nodes),
+    until(fun() -> owners(Nodes, on_c) =:= [P] andalso owners(Nodes, both) =:= [Q] end),
+    churned_returns(Nodes).
+creation(Node) ->
+    try maps:get(node, ask(Node, info, [])) catch _:_ -> none end.
+
+churned_returns(Nodes) ->
+    [at(Node, churn, [Seed]) || {Seed, Node} <- lists:zip([1, 2, 3], Nodes)],
+    Last = lists:foldl(fun(Round, Now) -> killed_and_back(Round, Now) end, Nodes, [2, 3, 1, 3, 2]),
+    timer:sleep(500),
+    {_, Holds} = lists:unzip([at(Node, churned, []) || Node <- Last]),
+    expect("no two held the lock at once", [], overlaps(lists:sort(lists:append(Holds)))),
+    until(fun() -> are_equal(Last) end),
+    stopped(Last).
+killed_and_back(Place, Nodes) ->
+    timer:sleep(500),
+    Node = lists:nth(Place, Nodes),
+    kill(Node),
+    stop(Node),
+    Next = start(hd(string:lexemes(atom_to_list(name(Node)), "@"))),
+    ok = run(Next, ["g1", "g2", "g3"]),
+    Now = lists:sublist(Nodes, Place - 1) ++ [Next | lists:nthtail(Place, Nodes)],
+    settled(Now),
+    at(Next, churn, [Place]),
+    Now.
