@@ -19,20 +19,20 @@ import time
 from .outcomes import Failure, Test
 from .programs import run
 
-# What the scenarios are called, each with how many seconds it may take.
+# What the scenarios are called, each with how many times as long it may take as an answer is waited for.
 SCENARIOS = {
-    "starters": 120,
-    "kills": 120,
-    "locks": 120,
-    "restarts": 120,
-    "names": 60,
-    "clashes": 60,
-    "terms": 60,
-    "leaves": 60,
-    "singleton": 60,
-    "programs": 60,
-    "returns": 60,
-    "refusals": 60,
+    "starters": 4,
+    "kills": 4,
+    "locks": 4,
+    "restarts": 4,
+    "names": 2,
+    "clashes": 2,
+    "terms": 2,
+    "leaves": 2,
+    "singleton": 2,
+    "programs": 2,
+    "returns": 4,
+    "refusals": 2,
 }
 # How many scenarios are played at once: each has up to four nodes, with a program each.
 AT_ONCE = threading.Semaphore(2)
@@ -129,12 +129,13 @@ def told(command, seconds, environment, home):
 
 def play(program, built, scenario):
     words = ["-kernel", "logger_level", "emergency", "-run", "yaltzumin_scenarios", "main", scenario]
-    control(built, words, SCENARIOS[scenario], YALTZUMIN_PROGRAM=program.path)
+    more = {"YALTZUMIN_PROGRAM": program.path, "YALTZUMIN_SECONDS": f"{program.seconds:.0f}"}
+    control(built, words, SCENARIOS[scenario] * program.seconds, **more)
 
 
-def check(built):
+def check(program, built):
     """The tests of the application's own modules, which play no program."""
-    control(built, ["-eval", "case eunit:test(yaltzumin_tests) of ok -> halt(0); _ -> halt(1) end."], 60)
+    control(built, ["-eval", "case eunit:test(yaltzumin_tests) of ok -> halt(0); _ -> halt(1) end."], 2 * program.seconds)
 
 
 def control(built, words, seconds, **environment):
@@ -153,6 +154,6 @@ def tests(program, root):
         print(f"erlang: left out, since {why}")
         return
     built = Built(root)
-    yield Test("erlang/modules", functools.partial(check, built))
+    yield Test("erlang/modules", functools.partial(check, program, built))
     for scenario in SCENARIOS:
         yield Test(f"erlang/{scenario}", functools.partial(play, program, built, scenario))

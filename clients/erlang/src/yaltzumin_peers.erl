@@ -31,7 +31,7 @@
 -opaque peers() :: #peers{}.
 
 %% So long are the servers of other nodes waited for when this one starts, in milliseconds.
--define(SURVEY, 2000).
+-define(SURVEY, 5000).
 %% And so long the connections to their nodes.
 -define(CONNECTING, 3000).
 

@@ -3,16 +3,15 @@
 -export([start/1, stop/1, kill/1, world/1, run/2, run/3, cluster/1, cluster/2, call/4, name/1]).
 -export([settled/1, until/1, program_pid/1, expect/3]).
 
-%% How long a node is waited for, and a call at one, and what has to come about, in milliseconds.
--define(BOOTING, 60000).
--define(CALLING, 120000).
--define(MEANWHILE, 30000).
+%% How long a node is waited for and what has to come about, and a call at a node, in milliseconds.
+-define(MEANWHILE, 1000 * list_to_integer(os:getenv("YALTZUMIN_SECONDS", "30"))).
+-define(CALLING, 4 * ?MEANWHILE).
 
 %% Starts a node of this machine, with the code that the controller has.
 start(Name) ->
     Folder = filename:dirname(code:which(?MODULE)),
     {ok, Peer, Node} =
-        peer:start(#{name => Name, host => "localhost", connection => standard_io, wait_boot => ?BOOTING,
+        peer:start(#{name => Name, host => "localhost", connection => standard_io, wait_boot => ?MEANWHILE,
                      args => ["-pa", Folder, "-start_epmd", "false", "-setcookie", "yaltzumin", "+S", "2:2", "+sbwt", "none",
                               "-kernel", "inet_dist_use_interface", "{127,0,0,1}", "-kernel", "logger_level", os:getenv("YALTZUMIN_LOG", "emergency"),
                               "-kernel", "prevent_overlapping_partitions", "false"]}),
