@@ -19,6 +19,8 @@ pub(crate) enum Command {
     Letter(Node, LinkLine),
     /// Another node is gone without a word.
     Down(Node),
+    /// The next node of a name has started.
+    Started(Node),
     /// Time went by.
     Tick,
 }
@@ -217,6 +219,7 @@ fn read_untagged(word: &str, text: &str) -> Result<Command, LineFault> {
             Ok(Command::Letter(from, line))
         }
         "down" => Ok(Command::Down(parse_node(text)?)),
+        "started" => Ok(Command::Started(parse_node(text)?)),
         "tick" if text.is_empty() => Ok(Command::Tick),
         _ => Err(LineFault::BadLine),
     }

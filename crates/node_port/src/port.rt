@@ -59,6 +59,10 @@ fn open_loop(
     ensures { IfOk result (λ new. BeginsSound new.core new × (new.core ≡ fresh node.now world.now (node.now ∷ []) founds)) }
 {
     let members = NodeSet::one(node.copy());
+    if node.creation() > 1 {
+        let older = Node::of(node.name().copy(), node.creation() - 1);
+        return NodeLoop::new(alloc, NodeCore::come_back(alloc, node.copy(), world, &NodeSet::one(older)));
+    }
     NodeLoop::new(
         alloc,
         NodeCore::new(alloc, node.copy(), world, &members, founds),
@@ -241,6 +245,14 @@ impl Port {
             }
             Command::Letter(from, line) => self.hear(&from, line),
             Command::Down(node) => self.lose(&node),
+            Command::Started(next) => {
+                if self.node.replace(&next) {
+                    self.end.reopen(&next);
+                } else {
+                    self.output.answers.push_str("error no_such_node\n")?;
+                }
+                Ok(Standing::Runs)
+            }
             Command::Tick => {
                 self.tick()?;
                 Ok(self.standing())
