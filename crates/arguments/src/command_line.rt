@@ -72,29 +72,26 @@ fn valued_serve_command<'a>(alloc: Global) -> Result<Command<'a>, AllocError>
     ensures shape { IfOk result (λ command. app_of command ≡ record { top = valued_serve_shape; subs = [] }) }
     ensures local { IfOk result (λ command. (fields_of command).has_globals ≡ false) }
 {
-    let listen = wanted_option(
-        alloc,
-        "listen",
-        "ADDR",
-        "The address to listen on, as 127.0.0.1:4370, or with --stay a socket, as unix:/run/yaltzumin/socket",
-    );
-    let nodes = wanted_option(
-        alloc,
-        "nodes",
-        "LIST",
-        "The nodes that are joined from the start, parted by commas, as a,b,c",
-    );
-    let lone = option(
-        alloc,
-        "lone",
-        "LIST",
-        "The nodes that stand alone at the start, parted by commas, as d,e; none without this option",
-    );
     Command::new(alloc, "serve")
         .about("Runs nodes and serves consoles over the network")
-        .arg(listen)?
-        .arg(nodes)?
-        .arg(lone)?
+        .arg(wanted_option(
+            alloc,
+            "listen",
+            "ADDR",
+            "The address to listen on, as 127.0.0.1:4370, or with --stay a socket, as unix:/run/yaltzumin/socket",
+        ))?
+        .arg(wanted_option(
+            alloc,
+            "nodes",
+            "LIST",
+            "The nodes that are joined from the start, parted by commas, as a,b,c",
+        ))?
+        .arg(option(
+            alloc,
+            "lone",
+            "LIST",
+            "The nodes that stand alone at the start, parted by commas, as d,e; none without this option",
+        ))?
         .arg(consoles_option(alloc))
 }
 
@@ -103,15 +100,14 @@ fn serve_command<'a>(alloc: Global) -> Result<Command<'a>, AllocError>
     ensures shape { IfOk result (λ command. app_of command ≡ record { top = serve_shape; subs = [] }) }
     ensures local { IfOk result (λ command. (fields_of command).has_globals ≡ false) }
 {
-    let cookie_file = option(
-        alloc,
-        "cookie-file",
-        "FILE",
-        "With --stay: the file whose first line each console must show, which only its owner may read; wanted where ADDR is no socket",
-    );
     valued_serve_command(alloc)?
         .arg(stay_flag(alloc))?
-        .arg(cookie_file)?
+        .arg(option(
+            alloc,
+            "cookie-file",
+            "FILE",
+            "With --stay: the file whose first line each console must show, which only its owner may read; wanted where ADDR is no socket",
+        ))?
         .arg(idle_option(alloc))
 }
 
