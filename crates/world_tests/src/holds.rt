@@ -1,12 +1,14 @@
 //! When a node may leave: at each moment of some scripts, but in its hold of the global lock.
-use crate::worlds::{Cluster, ENOUGH, event_of, is_held, start};
+use crate::worlds::{
+    Cluster, ENOUGH, NOTHING, Scene, event_of, is_held, is_so, is_written, refusal_of,
+};
 use cluster_world::{Event, Refusal, StepFault, WorldEvent};
 use std::alloc::Global;
 use term::{Node, parse_node};
 
 /// Plays an event, and puts it behind the others. Whether it was taken.
 fn plays_on(world: &mut Cluster, events: &mut Vec<WorldEvent>, event: WorldEvent) -> bool {
-    world.play(&event).is_ok() && events.push(event).is_ok()
+    refusal_of(world, &event).is_none() && events.push(event).is_ok()
 }
 
 /// Delivers what waits until nothing does, each letter by an event of its own. Whether all that was taken.
@@ -23,7 +25,7 @@ fn settles_on(world: &mut Cluster, events: &mut Vec<WorldEvent>) -> bool {
 }
 
 /// Plays the lines of a script, parted by commas, and writes their events down, of a `settle` each delivery. Whether all were taken.
-fn writes_out(
+pub(crate) fn writes_out(
     alloc: Global,
     world: &mut Cluster,
     lines: &str,
@@ -52,28 +54,23 @@ fn is_alone(world: &Cluster, node: &Node) -> bool {
 /// Whether a node may leave exactly where it doesn't hold the lock.
 fn leaves_out_of_hold(world: &mut Cluster, node: &Node) -> bool {
     let is_held = is_held(world, node);
-    match world.play(&WorldEvent::At(node.copy(), Event::Leave)) {
-        Ok(_) => !is_held,
-        Err(refusal) => is_held && refusal == Refusal::Step(StepFault::HoldsLock),
+    match refusal_of(world, &WorldEvent::At(node.copy(), Event::Leave)) {
+        None => !is_held,
+        Some(refusal) => is_held && refusal == Refusal::Step(StepFault::HoldsLock),
     }
 }
 
-/// Whether it is so of a joined node in a world that plays these events first.
-fn leaves_behind(alloc: Global, cluster: &str, events: &[WorldEvent], node: &Node) -> bool {
-    match start(alloc, cluster) {
-        Some(mut world) => {
-            world.run(events).refusal.is_none()
-                && (is_alone(&world, node) || leaves_out_of_hold(&mut world, node))
-        }
-        None => false,
-    }
+/// Whether it is so of a node, if it is joined, in a world that plays these events first.
+pub(crate) fn leaves_behind(world: &mut Cluster, events: &[WorldEvent], node: &Node) -> bool {
+    world.run(events).refusal.is_none()
+        && (is_alone(world, node) || leaves_out_of_hold(world, node))
 }
 
 /// Whether it is so of each of these nodes, parted by blanks.
 fn all_leave_behind(alloc: Global, cluster: &str, events: &[WorldEvent], nodes: &str) -> bool {
     for text in nodes.split(' ') {
         let leaves = match parse_node(text) {
-            Ok(node) => leaves_behind(alloc, cluster, events, &node),
+            Ok(node) => is_so(alloc, cluster, NOTHING, Scene::Left(events, &node)),
             Err(_) => false,
         };
         if !leaves {
@@ -96,11 +93,8 @@ fn leave_behind_each(alloc: Global, cluster: &str, events: &[WorldEvent], nodes:
 /// Whether it is so at each moment of a script.
 fn leave_at_each_moment(alloc: Global, cluster: &str, lines: &str, nodes: &str) -> bool {
     let mut events = Vec::new(alloc);
-    let is_written = match start(alloc, cluster) {
-        Some(mut world) => writes_out(alloc, &mut world, lines, &mut events),
-        None => false,
-    };
-    is_written && leave_behind_each(alloc, cluster, events.as_slice(), nodes)
+    is_written(alloc, cluster, NOTHING, Scene::Written(lines), &mut events)
+        && leave_behind_each(alloc, cluster, events.as_slice(), nodes)
 }
 
 /// Two nodes ask for the lock at once.

@@ -1,5 +1,5 @@
-//! Tests of worlds, of logs and of their replays: what their calls give that no script prints. They have a crate of their own, since a
-//! crate is proved anew with its tests.
+//! Tests of worlds, of logs and of their replays, and of scripts: what their calls give that no script prints, and what only a call
+//! in code can show of scripts. What scripts print is shown by tests/scripts, on the built program.
 #![tactic(auto)]
 
 #[cfg(test)]
@@ -14,5 +14,9 @@ mod records;
 mod runs;
 #[cfg(test)]
 mod seats;
+#[cfg(test)]
+mod streams;
+#[cfg(test)]
+mod words;
 #[cfg(test)]
 mod worlds;

@@ -1,5 +1,5 @@
 //! Work under the locks of a world's clients.
-use crate::worlds::{Cluster, is_text, played};
+use crate::worlds::{Cluster, Scene, is_so, is_text, refusal_of};
 use cluster_world::{Event, Refusal, SeatFault, StepFault, WorldEvent, WorldSeat};
 use name_table::ListTable;
 use std::alloc::Global;
@@ -11,19 +11,19 @@ type Worked = Result<Outcome<u32>, TransFault<u32, SeatFault>>;
 
 /// The lock of a requester on the resource `r`.
 fn lock(requester: &str) -> Option<LockId> {
-    let (Ok(resource), Ok(requester)) = (parse_resource("r"), parse_requester(requester)) else {
-        return None;
-    };
-    Some(LockId {
-        resource,
-        requester,
-    })
+    match (parse_resource("r"), parse_requester(requester)) {
+        (Ok(resource), Ok(requester)) => Some(LockId {
+            resource,
+            requester,
+        }),
+        _ => None,
+    }
 }
 
 /// A process dies.
 fn kill(world: &mut Cluster, process: &Pid) {
     let exit = Event::Exit(process.copy());
-    let _ = world.play(&WorldEvent::At(process.node.copy(), exit));
+    refusal_of(world, &WorldEvent::At(process.node.copy(), exit));
 }
 
 /// What seven comes to that a holder answers under a lock, and dies meanwhile, where it is to.
@@ -87,7 +87,7 @@ fn is_free(world: &mut Cluster, holder: &str, requester: &str) -> bool {
 }
 
 /// Whether work is done under a lock that is free, and not while another has it; nor while a call of its holder waits.
-fn works_while_free(world: &mut Cluster) -> bool {
+pub(crate) fn works_while_free(world: &mut Cluster) -> bool {
     works(world, "a.1", "q", Retries::Times(0), false) == "seven"
         && is_free(world, "a.2", "z")
         && works(world, "a.1", "q", Retries::Times(0), false) == "aborted"
@@ -97,23 +97,17 @@ fn works_while_free(world: &mut Cluster) -> bool {
 
 #[test]
 fn works_under_a_lock(rt: HostRuntime) {
-    match played(rt.alloc(), "a,b", "spawn a, spawn a") {
-        Some(mut world) => assert!(rt; works_while_free(&mut world)),
-        None => assert!(rt; false),
-    }
+    assert!(rt; is_so(rt.alloc(), "a,b", "spawn a, spawn a", Scene::Work));
 }
 
 /// Whether a holder that dies at work loses the lock.
-fn loses_when_dead(world: &mut Cluster) -> bool {
+pub(crate) fn loses_when_dead(world: &mut Cluster) -> bool {
     works(world, "a.1", "q", Retries::Times(0), true) == "not_live" && is_free(world, "a.2", "z")
 }
 
 #[test]
 fn loses_the_lock_with_its_holder(rt: HostRuntime) {
-    match played(rt.alloc(), "a,b", "spawn a, spawn a") {
-        Some(mut world) => assert!(rt; loses_when_dead(&mut world)),
-        None => assert!(rt; false),
-    }
+    assert!(rt; is_so(rt.alloc(), "a,b", "spawn a, spawn a", Scene::Death));
 }
 
 /// Whether a fault is shown so.

@@ -1,5 +1,6 @@
-//! Worlds, played by the lines of scripts. A test owns a world and does no more than ask it one thing; what is played and looked at
-//! borrows it, since a proof grows with what may be dropped where a function ends.
+//! Worlds, played by the lines of scripts. One function owns a world; what is played and looked at borrows it, since a proof grows with
+//! what may be dropped where a function ends.
+use crate::{holds, seats};
 use cluster_world::{
     Call, Event, HistoryEntry, Look, NameCall, Refusal, Reply, StartFault, StepFault, World,
     WorldEvent,
@@ -7,7 +8,9 @@ use cluster_world::{
 use command_lines::{Task, read_task};
 use name_table::{ListTable, Names, Pair};
 use std::alloc::{AllocError, Global};
-use term::{Name, Node, Rule, parse_name, parse_node, parse_node_name, parse_nodes, parse_pid};
+use term::{
+    Name, Node, NodeNames, Rule, parse_name, parse_node, parse_node_name, parse_nodes, parse_pid,
+};
 use text_lines::Line;
 
 pub(crate) type Cluster = World<ListTable<Global>>;
@@ -17,6 +20,51 @@ pub(crate) const ENOUGH: u32 = 1000;
 
 /// A name of as many bytes as a name has at most.
 const LONG: &str = "sixty-four_bytes@4567890123456789012345678901234567890123456789_";
+
+/// What a world is asked that has played some lines.
+#[derive(Clone, Copy)]
+pub(crate) enum Scene<'a> {
+    /// Whether its history has each kind of entry.
+    History,
+    /// Whether a run ends at the first event that is refused.
+    Run,
+    /// Whether it shows how its nodes stand.
+    Nodes,
+    /// Whether a node tells nothing of another's process.
+    Elsewhere,
+    /// Whether work is done under locks.
+    Work,
+    /// Whether a lock goes with its holder.
+    Death,
+    /// Whether it plays these lines, too, whose events are written down.
+    Written(&'a str),
+    /// Whether it plays these events, and this node may leave then exactly where it doesn't hold the lock.
+    Left(&'a [WorldEvent], &'a Node),
+}
+
+impl<'a> Scene<'a> {
+    /// Whether it is so.
+    fn holds(self, alloc: Global, world: &mut Cluster, events: &mut Vec<WorldEvent>) -> bool {
+        match self {
+            Scene::History => has_each_kind(alloc, world),
+            Scene::Run => runs(alloc, world),
+            Scene::Nodes => shows_nodes(alloc, world),
+            Scene::Elsewhere => is_no_process(world, "a", "b.1"),
+            Scene::Work => seats::works_while_free(world),
+            Scene::Death => seats::loses_when_dead(world),
+            Scene::Written(lines) => holds::writes_out(alloc, world, lines, events),
+            Scene::Left(played, node) => holds::leaves_behind(world, played, node),
+        }
+    }
+}
+
+/// Why an event is refused that is played, if it is.
+pub(crate) fn refusal_of(world: &mut Cluster, event: &WorldEvent) -> Option<Refusal> {
+    match world.play(event) {
+        Ok(_) => None,
+        Err(refusal) => Some(refusal),
+    }
+}
 
 /// Delivers what waits until nothing does. Whether all that was taken.
 fn settle(world: &mut Cluster) -> bool {
@@ -30,10 +78,8 @@ fn settle(world: &mut Cluster) -> bool {
     false
 }
 
-/// The event that a line of a script asks for, if it asks for one, in a world of first nodes.
-pub(crate) fn event_of(alloc: Global, line: &str) -> Option<WorldEvent> {
-    let line = Line::Text(line.as_bytes().to_vec(alloc).ok()?);
-    let task = read_task(alloc, &line).ok()?;
+/// The event that a task asks for, if it asks for one, in a world of first nodes.
+fn event_in(task: Task) -> Option<WorldEvent> {
     match task {
         Task::Play(event) => Some(event),
         Task::At(name, event) => Some(WorldEvent::At(Node::first(name), event)),
@@ -41,10 +87,26 @@ pub(crate) fn event_of(alloc: Global, line: &str) -> Option<WorldEvent> {
     }
 }
 
+/// The event that a line asks for.
+fn event_on(alloc: Global, line: &Line) -> Option<WorldEvent> {
+    match read_task(alloc, line) {
+        Ok(task) => event_in(task),
+        Err(_) => None,
+    }
+}
+
+/// The event that a line of a script asks for.
+pub(crate) fn event_of(alloc: Global, line: &str) -> Option<WorldEvent> {
+    match line.as_bytes().to_vec(alloc) {
+        Ok(bytes) => event_on(alloc, &Line::Text(bytes)),
+        Err(_) => None,
+    }
+}
+
 /// Plays a line of a script. Whether it was taken.
 fn play_line(alloc: Global, world: &mut Cluster, line: &str) -> bool {
     match event_of(alloc, line) {
-        Some(event) => world.play(&event).is_ok(),
+        Some(event) => refusal_of(world, &event).is_none(),
         None => line == "settle" && settle(world),
     }
 }
@@ -59,22 +121,36 @@ fn plays(alloc: Global, world: &mut Cluster, lines: &str) -> bool {
     true
 }
 
-/// A world of these joined nodes, parted by commas, and of the lone node d.
-pub(crate) fn start(alloc: Global, cluster: &str) -> Option<Cluster> {
-    let (Ok(cluster), Ok(lone)) = (parse_nodes(cluster), parse_nodes("d")) else {
-        return None;
-    };
-    World::start(alloc, cluster.as_slice(), lone.as_slice()).ok()
+/// The nodes of a list, or none where it is no list.
+fn names_of(list: &str) -> NodeNames {
+    parse_nodes(list).unwrap_or(NodeNames::empty())
 }
 
-/// Such a world that has played the lines of a script, parted by commas.
-pub(crate) fn played(alloc: Global, cluster: &str, lines: &str) -> Option<Cluster> {
-    let mut world = start(alloc, cluster)?;
-    if !plays(alloc, &mut world, lines) {
-        return None;
+/// Whether it is so in a world of these joined nodes, parted by commas, and of the lone node d, that has played the lines of a
+/// script, parted by commas. Events that are written down go behind the others.
+pub(crate) fn is_written(
+    alloc: Global,
+    cluster: &str,
+    lines: &str,
+    scene: Scene<'_>,
+    events: &mut Vec<WorldEvent>,
+) -> bool {
+    let (joined, lone) = (names_of(cluster), names_of("d"));
+    match Cluster::start(alloc, joined.as_slice(), lone.as_slice()) {
+        Ok(mut world) => {
+            plays(alloc, &mut world, lines) && scene.holds(alloc, &mut world, events)
+        }
+        Err(_) => false,
     }
-    Some(world)
 }
+
+/// Whether it is so where nothing is written down.
+pub(crate) fn is_so(alloc: Global, cluster: &str, lines: &str, scene: Scene<'_>) -> bool {
+    is_written(alloc, cluster, lines, scene, &mut Vec::new(alloc))
+}
+
+/// A line that changes nothing in a new world.
+pub(crate) const NOTHING: &str = "settle";
 
 /// Each kind of entry, with names of 16 bytes, of 17, and of 64, and with a process of a node outside the world.
 const EACH_KIND: &str = "\
@@ -84,13 +160,12 @@ re_register a sixty-four_bytes@4567890123456789012345678901234567890123456789_ b
 unregister a seventeen_bytes_1, settle, register a z stranger.7, settle, \
 join d a, settle, exit b.1, settle, leave b, settle";
 
-/// All entries of the history, made again.
-fn entries(alloc: Global, world: &Cluster) -> Result<Vec<HistoryEntry>, AllocError> {
-    let mut entries = Vec::new(alloc);
+/// Puts all entries of the history, made again, behind others.
+fn push_history(entries: &mut Vec<HistoryEntry>, world: &Cluster) -> Result<(), AllocError> {
     for kept in world.history() {
         entries.push(kept.entry()?)?;
     }
-    Ok(entries)
+    Ok(())
 }
 
 /// Whether entries are of these kinds, in this order.
@@ -119,31 +194,35 @@ fn are_of_each_kind(entries: &[HistoryEntry]) -> bool {
 
 /// The entry of the longest name, which call 3 of node a registered.
 fn entry_of_longest() -> Option<HistoryEntry> {
-    let (Ok(node), Ok(name), Ok(owner)) = (parse_node("a"), parse_name(LONG), parse_pid("b.1"))
-    else {
-        return None;
-    };
-    let rule = Rule::Notify;
-    let call = NameCall::ReRegister(Pair { name, owner, rule });
-    Some(HistoryEntry::Name(node, 3, call, Reply::Yes))
+    match (parse_node("a"), parse_name(LONG), parse_pid("b.1")) {
+        (Ok(node), Ok(name), Ok(owner)) => {
+            let rule = Rule::Notify;
+            let call = NameCall::ReRegister(Pair { name, owner, rule });
+            Some(HistoryEntry::Name(node, 3, call, Reply::Yes))
+        }
+        _ => None,
+    }
+}
+
+/// Whether that is among these.
+fn has_longest(entries: &[HistoryEntry]) -> bool {
+    match entry_of_longest() {
+        Some(longest) => entries.contains(&longest),
+        None => false,
+    }
 }
 
 /// Whether the history of a world has each kind of entry, and one of the longest name.
 fn has_each_kind(alloc: Global, world: &Cluster) -> bool {
-    match (entries(alloc, world), entry_of_longest()) {
-        (Ok(entries), Some(longest)) => {
-            are_of_each_kind(entries.as_slice()) && entries.contains(&longest)
-        }
-        _ => false,
-    }
+    let mut entries = Vec::new(alloc);
+    push_history(&mut entries, world).is_ok()
+        && are_of_each_kind(entries.as_slice())
+        && has_longest(entries.as_slice())
 }
 
 #[test]
 fn gives_its_history_back(rt: HostRuntime) {
-    match played(rt.alloc(), "a,b", EACH_KIND) {
-        Some(world) => assert!(rt; has_each_kind(rt.alloc(), &world)),
-        None => assert!(rt; false),
-    }
+    assert!(rt; is_so(rt.alloc(), "a,b", EACH_KIND, Scene::History));
 }
 
 /// Puts the event of a line behind the others.
@@ -190,10 +269,7 @@ fn runs(alloc: Global, world: &mut Cluster) -> bool {
 
 #[test]
 fn runs_up_to_a_refusal(rt: HostRuntime) {
-    match played(rt.alloc(), "a", "settle") {
-        Some(mut world) => assert!(rt; runs(rt.alloc(), &mut world)),
-        None => assert!(rt; false),
-    }
+    assert!(rt; is_so(rt.alloc(), "a", NOTHING, Scene::Run));
 }
 
 /// The node `a` registers a name, and holds the lock.
@@ -226,8 +302,8 @@ fn knows(world: &Cluster, node: &Node, name: &Name) -> Option<bool> {
     Some(world.table(node)?.get(name).is_some())
 }
 
-/// Whether nobody holds the lock and no letter waits once c has left, whose members and names stay as they were.
-fn shows_departure(world: &Cluster, a: &Node, c: &Node, d: &Node, x: &Name) -> bool {
+/// Whether nobody holds the lock and no letter waits once c has left, whose members stay as they were.
+fn shows_departure(world: &Cluster, a: &Node, c: &Node) -> bool {
     world.holder().is_none()
         && world.waiting().is_none()
         && world.nodes().len() == 4
@@ -235,23 +311,28 @@ fn shows_departure(world: &Cluster, a: &Node, c: &Node, d: &Node, x: &Name) -> b
         && !world.has_left(a)
         && count_members(world, a) == Some(2)
         && count_members(world, c) == Some(3)
-        && is_told(world, d, c)
-        && knows(world, c, x) == Some(true)
-        && knows(world, d, x) == Some(false)
+}
+
+/// Whether d was told of it, and the names of c stay as they were.
+fn keeps_names(world: &Cluster, c: &Node) -> bool {
+    match (parse_node("d"), parse_name("x")) {
+        (Ok(d), Ok(x)) => {
+            is_told(world, &d, c)
+                && knows(world, c, &x) == Some(true)
+                && knows(world, &d, &x) == Some(false)
+        }
+        _ => false,
+    }
 }
 
 /// Whether a world shows how its nodes stand while `a` holds the lock, and once `c` has left.
 fn shows_nodes(alloc: Global, world: &mut Cluster) -> bool {
-    match (
-        parse_node("a"),
-        parse_node("c"),
-        parse_node("d"),
-        parse_name("x"),
-    ) {
-        (Ok(a), Ok(c), Ok(d), Ok(x)) => {
+    match (parse_node("a"), parse_node("c")) {
+        (Ok(a), Ok(c)) => {
             is_held(world, &a)
                 && plays(alloc, world, "settle, leave c, settle")
-                && shows_departure(world, &a, &c, &d, &x)
+                && shows_departure(world, &a, &c)
+                && keeps_names(world, &c)
         }
         _ => false,
     }
@@ -259,30 +340,23 @@ fn shows_nodes(alloc: Global, world: &mut Cluster) -> bool {
 
 #[test]
 fn shows_its_nodes(rt: HostRuntime) {
-    match played(rt.alloc(), "a,b,c", HELD) {
-        Some(mut world) => assert!(rt; shows_nodes(rt.alloc(), &mut world)),
-        None => assert!(rt; false),
-    }
+    assert!(rt; is_so(rt.alloc(), "a,b,c", HELD, Scene::Nodes));
 }
 
 /// Whether a node doesn't tell what a process of another node was sent, as if there were no such process.
 fn is_no_process(world: &mut Cluster, node: &str, process: &str) -> bool {
-    let (Ok(node), Ok(process)) = (parse_node(node), parse_pid(process)) else {
-        return false;
-    };
-    let event = WorldEvent::At(node, Event::Call(Call::Notices(process)));
-    match world.play(&event) {
-        Ok(_) => false,
-        Err(refusal) => refusal == Refusal::Step(StepFault::NoSuchProcess),
+    match (parse_node(node), parse_pid(process)) {
+        (Ok(node), Ok(process)) => {
+            let event = WorldEvent::At(node, Event::Call(Call::Notices(process)));
+            refusal_of(world, &event) == Some(Refusal::Step(StepFault::NoSuchProcess))
+        }
+        _ => false,
     }
 }
 
 #[test]
 fn refuses_to_look_elsewhere(rt: HostRuntime) {
-    match played(rt.alloc(), "a,b", "spawn a, spawn b") {
-        Some(mut world) => assert!(rt; is_no_process(&mut world, "a", "b.1")),
-        None => assert!(rt; false),
-    }
+    assert!(rt; is_so(rt.alloc(), "a,b", "spawn a, spawn b", Scene::Elsewhere));
 }
 
 /// Whether this text was printed.
