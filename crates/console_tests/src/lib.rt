@@ -5,8 +5,6 @@
 #[cfg(test)]
 mod clerks;
 #[cfg(test)]
-mod clients;
-#[cfg(test)]
 mod cookies;
 #[cfg(test)]
 mod described;
@@ -24,8 +22,6 @@ mod listeners;
 mod lookouts;
 #[cfg(test)]
 mod refusals;
-#[cfg(test)]
-mod seats;
 #[cfg(test)]
 mod staying;
 #[cfg(test)]

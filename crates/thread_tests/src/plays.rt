@@ -4,6 +4,7 @@ use crate::calls::is_refused;
 use crate::cast::Cast;
 use crate::doors::{Door, Latch};
 use crate::scenes::Scene;
+use crate::scenes::consoles::{LINES, TEXT, Talk};
 use crate::tables::Stubborn;
 use node_threads::{
     Call, CloseFault, Closed, Cluster, HistoryEntry, KeptEntry, Reply, Seat, SeatFault, Transcript,
@@ -115,16 +116,21 @@ fn transcribe(seats: Vec<Seat>, told: &mut Vec<Transcript>) -> bool {
     whole
 }
 
-/// Plays a scene at seats of a cluster, and takes what they were told. Whether all was as it is to be.
+/// Plays a scene at seats of a cluster, or has consoles talk at those of its first node, and takes what they were told. Whether all
+/// was as it is to be.
 fn plays_at<R: Threads + Wait + Clock + Sync>(
     rt: &R,
     alloc: Global,
     cluster: &mut Small,
+    node: &NodeName,
     play: Play<'_>,
     cast: &Cast,
     door: &Door,
     told: &mut Vec<Transcript>,
 ) -> bool {
+    if let Scene::Console(talk) = play.scene {
+        return talk.holds(rt, alloc, cluster, node, told);
+    }
     let mut seats = Vec::new(alloc);
     let fine = sit(cluster, play.seats, &mut seats)
         && play
@@ -159,7 +165,7 @@ where
     R: Threads + Wait + Clock + Drop + Copy + Send + Sync + 'static,
 {
     let mut told = Vec::new(alloc);
-    let fine = plays_at(rt, alloc, &mut cluster, play, cast, door, &mut told);
+    let fine = plays_at(rt, alloc, &mut cluster, node, play, cast, door, &mut told);
     let behind = cluster.seat(node);
     let is_met = play.close.is_met(cluster.close(rt, told.as_slice()));
     let ends = is_over(rt, behind, cast) || play.scene.leaves();
@@ -330,4 +336,42 @@ fn a_step_that_is_refused_is_tried_again(rt: HostRuntime) {
 #[test]
 fn a_node_that_is_refused_three_times_ends_alone(rt: HostRuntime) {
     assert!(rt; plays(&rt, rt.alloc(), Scene::Thrice, "a", "a", Close::LeftInHold));
+}
+
+/// Whether consoles that talk in a cluster of these nodes, at seats of the first, are answered as they should be, and what they
+/// were told is of its run.
+fn talks<R>(rt: &R, alloc: Global, nodes: &str, talk: Talk) -> bool
+where
+    R: Threads + Wait + Clock + Drop + Copy + Send + Sync + 'static,
+{
+    plays(rt, alloc, Scene::Console(talk), nodes, "", ANY)
+}
+
+#[test]
+fn transcripts_are_handed_back(rt: HostRuntime) {
+    assert!(rt; talks(&rt, rt.alloc(), "a,b", Talk::Whole));
+}
+
+#[test]
+fn readers_fail_at_each_point_of_a_seat(rt: HostRuntime) {
+    for count in 0..LINES.len() {
+        assert!(rt; talks(&rt, rt.alloc(), "a,b", Talk::Torn(count)));
+    }
+}
+
+#[test]
+fn writers_fail_at_each_point_of_a_seat(rt: HostRuntime) {
+    for room in 0..TEXT.len() {
+        assert!(rt; talks(&rt, rt.alloc(), "a,b", Talk::Full(room)));
+    }
+}
+
+#[test]
+fn a_seat_comes_back(rt: HostRuntime) {
+    assert!(rt; talks(&rt, rt.alloc(), "a", Talk::InTurn));
+}
+
+#[test]
+fn calls_whose_client_goes_are_given_up(rt: HostRuntime) {
+    assert!(rt; talks(&rt, rt.alloc(), "a", Talk::Waits));
 }

@@ -2,6 +2,7 @@
 use crate::cast::Cast;
 use crate::doors::Door;
 use crate::plays::Small;
+use crate::scenes::consoles::Talk;
 use node_threads::Seat;
 use std::alloc::Global;
 use std::sync::Wait;
@@ -9,6 +10,7 @@ use std::thread::Threads;
 use std::time::Clock;
 
 mod beside;
+pub(crate) mod consoles;
 mod crowds;
 mod floods;
 mod holders;
@@ -51,6 +53,8 @@ pub(crate) enum Scene {
     Twice,
     /// It is so three times.
     Thrice,
+    /// Consoles talk at seats that they are given.
+    Console(Talk),
 }
 
 impl Scene {
@@ -73,7 +77,11 @@ impl Scene {
 
     /// Whether the first node leaves.
     pub(crate) fn leaves(self) -> bool {
-        matches!(self, Scene::Leave)
+        match self {
+            Scene::Leave => true,
+            Scene::Console(talk) => talk.leaves(),
+            _ => false,
+        }
     }
 
     /// Plays it at one seat. Whether all was as it is to be.

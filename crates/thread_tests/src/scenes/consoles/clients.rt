@@ -8,7 +8,7 @@ use std::sync::atomic::{AtomicU32, Ordering};
 
 /// A client that listens.
 #[derive(Drop)]
-pub(crate) struct Listener;
+pub(super) struct Listener;
 
 impl Client for Listener {
     fn peer(&self) -> Peer {
@@ -18,13 +18,13 @@ impl Client for Listener {
 
 /// A server of five consoles.
 #[derive(Drop)]
-pub(crate) struct Home {
+pub(super) struct Home {
     lines: LockLines,
     descriptions: SharedDescriptions,
 }
 
 impl Home {
-    pub(crate) fn new(alloc: Global) -> Self {
+    pub(super) fn new(alloc: Global) -> Self {
         Home {
             lines: LockLines::new(alloc),
             descriptions: SharedDescriptions::new(alloc),
@@ -55,10 +55,10 @@ impl<H> House<H> for Home {
 
 /// A client that has ended its input, and goes. It counts how often somebody looks how it stands.
 #[derive(Drop)]
-pub(crate) struct Leaver {
-    pub(crate) looks: Arc<AtomicU32, Global>,
+pub(super) struct Leaver {
+    pub(super) looks: Arc<AtomicU32, Global>,
     /// How often it is found to be there, before it is gone.
-    pub(crate) stays: u32,
+    pub(super) stays: u32,
 }
 
 impl Client for Leaver {

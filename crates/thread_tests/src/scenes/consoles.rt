@@ -1,29 +1,66 @@
-//! Consoles at seats of running clusters: readers and writers that fail at each point, two consoles that have one seat, and lock calls whose
-//! client goes while they wait. One function owns a cluster; what is said and looked at borrows it.
-use crate::clients::{Home, Leaver, Listener};
-use crate::ends::{Ended, ended_by};
-use crate::faults::{are_lines_of, line_ends};
-use crate::streams::{Full, Torn};
-use console::{Client, ConsoleEnd, serve, serve_staying};
-use name_table::ListTable;
-use server::{Cluster, OpenGate, Seat, Transcript};
+//! Consoles at seats of running clusters: readers and writers that fail at each point, two consoles that have one seat, and lock
+//! calls whose client goes while they wait.
+use crate::plays::Small;
+use clients::{Home, Leaver, Listener};
+use console::{Client, ConsoleEnd, ConsoleFault, serve, serve_staying};
+use node_threads::{Seat, Transcript};
 use std::alloc::Global;
 use std::io::{BufReader, Cursor, Read, Write};
 use std::sync::atomic::{AtomicU32, Ordering};
 use std::sync::{Arc, Wait};
-use std::thread::Threads;
 use std::time::Clock;
-use term::{NodeName, parse_nodes};
+use streams::{Full, Torn};
+use term::NodeName;
 
-/// A cluster whose tables are lists.
-type Small = Cluster<OpenGate, ListTable<Global>>;
+mod clients;
+mod streams;
 
 /// Lines of a console at one of two nodes, which leaves.
-const LINES: &[u8] = b"whereis x\n\nexit b.1\nset_lock b.1 r q all 0\nnames\nleave\nspawn\nquit\n";
+pub(crate) const LINES: &[u8] =
+    b"whereis x\n\nexit b.1\nset_lock b.1 r q all 0\nnames\nleave\nspawn\nquit\n";
 
 /// What they are answered.
-const TEXT: &[u8] =
+pub(crate) const TEXT: &[u8] =
     b"undefined\nerror bad_line\nerror no_such_process\nerror not_live\nnames\nok\nerror node_left\nok\n";
+
+/// The first bytes of a text: so many, or all.
+fn first_of(text: &[u8], count: usize) -> &[u8] {
+    &text[..count.min(text.len())]
+}
+
+/// How many line ends there are among these bytes.
+fn line_ends(bytes: &[u8]) -> usize {
+    bytes.iter().filter(|byte| **byte == b'\n').count()
+}
+
+/// Whether these are the first so many lines of the answers.
+fn are_answers(lines: usize, bytes: &[u8]) -> bool {
+    TEXT.starts_with(bytes)
+        && line_ends(bytes) == lines
+        && (lines == 0 && bytes.is_empty() || bytes.last() == Some(&b'\n'))
+}
+
+/// How a console ended.
+#[derive(Clone, Copy, PartialEq, Eq)]
+enum Ended {
+    /// Without a fault.
+    Whole,
+    /// Its reader failed.
+    Read,
+    /// Its writer failed.
+    Write,
+    /// It met another fault.
+    Otherwise,
+}
+
+/// How it ended that met a fault.
+fn ended_by(fault: &ConsoleFault) -> Ended {
+    match fault {
+        ConsoleFault::Read => Ended::Read,
+        ConsoleFault::Write => Ended::Write,
+        ConsoleFault::TooManyLines | ConsoleFault::Memory => Ended::Otherwise,
+    }
+}
 
 /// How many of the first so many lines stand in the transcript: a look-up and what is refused don't.
 fn entries_for(lines: usize) -> usize {
@@ -36,13 +73,13 @@ fn entries_for(lines: usize) -> usize {
 
 /// What is said at the seats of a cluster.
 #[derive(Clone, Copy)]
-enum Talk<'a> {
+pub(crate) enum Talk {
     /// All lines.
     Whole,
-    /// These, behind which the reader fails.
-    Torn(&'a [u8]),
-    /// All, by a console whose writer has room for these answers.
-    Full(&'a [u8]),
+    /// So many bytes of them, behind which the reader fails.
+    Torn(usize),
+    /// All, by a console whose writer has room for so many bytes of the answers.
+    Full(usize),
     /// One console, and then another at the same seat.
     InTurn,
     /// Lock calls that wait, whose clients go.
@@ -52,6 +89,20 @@ enum Talk<'a> {
 /// Keeps a transcript. Whether it has so many entries, and there was memory.
 fn keeps(told: &mut Vec<Transcript>, transcript: Transcript, entries: usize) -> bool {
     transcript.entries.len() == entries && told.push(transcript).is_ok()
+}
+
+/// How a console at a seat ended, and its transcript.
+fn served<H: Wait + Clock, R: Read, W: Write>(
+    rt: &H,
+    alloc: Global,
+    reader: &mut BufReader<R, Global>,
+    writer: &mut W,
+    seat: Seat,
+) -> (Ended, Transcript) {
+    match serve(rt, alloc, reader, writer, seat) {
+        Ok(transcript) => (Ended::Whole, transcript),
+        Err((fault, transcript)) => (ended_by(&fault), transcript),
+    }
 }
 
 /// Whether a console at a seat comes to this, with so many entries in its transcript, which is kept.
@@ -65,12 +116,10 @@ fn comes_to<H: Wait + Clock, R: Read + Drop, W: Write>(
     told: &mut Vec<Transcript>,
 ) -> bool {
     match BufReader::new(alloc, reader) {
-        Ok(mut reader) => match serve(rt, alloc, &mut reader, writer, seat) {
-            Ok(transcript) => wanted.0 == Ended::Whole && keeps(told, transcript, wanted.1),
-            Err((fault, transcript)) => {
-                wanted.0 == ended_by(&fault) && keeps(told, transcript, wanted.1)
-            }
-        },
+        Ok(mut reader) => {
+            let (ended, transcript) = served(rt, alloc, &mut reader, writer, seat);
+            keeps(told, transcript, wanted.1) && ended == wanted.0
+        }
         Err(_) => false,
     }
 }
@@ -114,7 +163,7 @@ fn is_torn<H: Wait + Clock>(
         &mut written,
         wanted,
         told,
-    ) && are_lines_of(TEXT, lines, written.as_slice())
+    ) && are_answers(lines, written.as_slice())
 }
 
 /// Whether one whose writer has room for these bytes writes them alone, and carried out what it couldn't answer.
@@ -136,6 +185,14 @@ fn is_full<H: Wait + Clock>(
         wanted,
         told,
     ) && writer.taken.as_slice() == text
+}
+
+/// Whether a console ended so.
+fn is_end(found: Result<ConsoleEnd, ConsoleFault>, wanted: ConsoleEnd) -> bool {
+    match found {
+        Ok(end) => end == wanted,
+        Err(_) => false,
+    }
 }
 
 /// Whether a console of a server that stays, at a seat, answers lines with this text, and ends so; and the seat.
@@ -161,11 +218,7 @@ fn hold<H: Wait + Clock, C: Client + Drop>(
                 client,
                 &home,
             );
-            let is_due = match result {
-                Ok(end) => end == wanted && written.as_slice() == text,
-                Err(_) => false,
-            };
-            (is_due, seat)
+            (is_end(result, wanted) && written.as_slice() == text, seat)
         }
         Err(_) => (false, seat),
     }
@@ -207,8 +260,33 @@ fn answers<H: Wait + Clock, C: Client + Drop>(
     }
 }
 
-/// Whether a console looks more often than so at a client that has ended its input, and is gone behind so many looks, and its lines are
-/// answered with this text.
+/// Whether a console answers the lines of a client that has ended its input, and is gone behind so many looks, which are counted.
+fn answers_leaver<H: Wait + Clock>(
+    rt: &H,
+    alloc: Global,
+    cluster: &mut Small,
+    node: &NodeName,
+    counted: &Arc<AtomicU32, Global>,
+    stays: u32,
+    lines: &[u8],
+    text: &[u8],
+) -> bool {
+    match Arc::try_clone(counted) {
+        Ok(looks) => answers(
+            rt,
+            alloc,
+            cluster,
+            node,
+            Leaver { looks, stays },
+            lines,
+            text,
+        ),
+        Err(_) => false,
+    }
+}
+
+/// Whether a console looks more often than so at a client that has ended its input, and is gone behind so many looks, and its lines
+/// are answered with this text.
 fn looks<H: Wait + Clock>(
     rt: &H,
     alloc: Global,
@@ -220,14 +298,10 @@ fn looks<H: Wait + Clock>(
     text: &[u8],
 ) -> bool {
     match Arc::new(alloc, AtomicU32::new(0)) {
-        Ok(counted) => match Arc::try_clone(&counted) {
-            Ok(looks) => {
-                let client = Leaver { looks, stays };
-                answers(rt, alloc, cluster, node, client, lines, text)
-                    && counted.load(Ordering::SeqCst) > least
-            }
-            Err(_) => false,
-        },
+        Ok(counted) => {
+            answers_leaver(rt, alloc, cluster, node, &counted, stays, lines, text)
+                && counted.load(Ordering::SeqCst) > least
+        }
         Err(_) => false,
     }
 }
@@ -281,7 +355,12 @@ fn waits_no_longer<H: Wait + Clock>(
         )
 }
 
-impl<'a> Talk<'a> {
+impl Talk {
+    /// Whether its node leaves.
+    pub(crate) fn leaves(self) -> bool {
+        matches!(self, Talk::Whole | Talk::Torn(_) | Talk::Full(_))
+    }
+
     /// Has it said at a seat, and keeps what that was told. Whether all was answered as it should be.
     fn is_held<H: Wait + Clock>(
         self,
@@ -292,15 +371,15 @@ impl<'a> Talk<'a> {
     ) -> bool {
         match self {
             Talk::Whole => is_answered(rt, alloc, seat, told),
-            Talk::Torn(read) => is_torn(rt, alloc, seat, read, told),
-            Talk::Full(text) => is_full(rt, alloc, seat, text, told),
+            Talk::Torn(count) => is_torn(rt, alloc, seat, first_of(LINES, count), told),
+            Talk::Full(room) => is_full(rt, alloc, seat, first_of(TEXT, room), told),
             Talk::InTurn => holds_twice(rt, alloc, seat, told),
             Talk::Waits => false,
         }
     }
 
     /// Has it said at seats of a node of a cluster, and keeps what they were told. Whether all was answered as it should be.
-    fn holds<H: Wait + Clock>(
+    pub(crate) fn holds<H: Wait + Clock>(
         self,
         rt: &H,
         alloc: Global,
@@ -316,63 +395,4 @@ impl<'a> Talk<'a> {
             Err(_) => false,
         }
     }
-}
-
-/// Has a talk at the first of the nodes of a new cluster. Whether all was answered as it should be, and the run with what its seats were
-/// told is one of the world's.
-fn is_closed<R>(rt: &R, alloc: Global, nodes: &[NodeName], node: &NodeName, talk: Talk<'_>) -> bool
-where
-    R: Threads + Wait + Clock + Drop + Copy + Send + 'static,
-{
-    match Small::start(rt, alloc, nodes, &[], OpenGate, 0) {
-        Ok(mut cluster) => {
-            let mut told = Vec::new(alloc);
-            let fine = talk.holds(rt, alloc, &mut cluster, node, &mut told);
-            cluster.close(rt, told.as_slice()).is_ok() && fine
-        }
-        Err(_) => false,
-    }
-}
-
-/// Has a talk in a new cluster of these nodes, at their first.
-fn is_had<R>(rt: &R, alloc: Global, nodes: &str, talk: Talk<'_>) -> bool
-where
-    R: Threads + Wait + Clock + Drop + Copy + Send + 'static,
-{
-    match parse_nodes(nodes) {
-        Ok(nodes) => match nodes.as_slice().first() {
-            Some(node) => is_closed(rt, alloc, nodes.as_slice(), node, talk),
-            None => false,
-        },
-        Err(_) => false,
-    }
-}
-
-#[test]
-fn transcripts_are_handed_back(rt: HostRuntime) {
-    assert!(rt; is_had(&rt, rt.alloc(), "a,b", Talk::Whole));
-}
-
-#[test]
-fn readers_fail_at_each_point_of_a_seat(rt: HostRuntime) {
-    for count in 0..LINES.len() {
-        assert!(rt; is_had(&rt, rt.alloc(), "a,b", Talk::Torn(&LINES[..count])));
-    }
-}
-
-#[test]
-fn writers_fail_at_each_point_of_a_seat(rt: HostRuntime) {
-    for room in 0..TEXT.len() {
-        assert!(rt; is_had(&rt, rt.alloc(), "a,b", Talk::Full(&TEXT[..room])));
-    }
-}
-
-#[test]
-fn a_seat_comes_back(rt: HostRuntime) {
-    assert!(rt; is_had(&rt, rt.alloc(), "a", Talk::InTurn));
-}
-
-#[test]
-fn calls_whose_client_goes_are_given_up(rt: HostRuntime) {
-    assert!(rt; is_had(&rt, rt.alloc(), "a", Talk::Waits));
 }
