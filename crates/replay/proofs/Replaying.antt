@@ -130,23 +130,30 @@ module _ (cluster lone : List ℕ) (ends : List End) (ts : List Transcript) wher
 pub opened_run : (h : Held) → AgreesAfter [] h → LocksAfter (opening_of h) [] (seen h) → IsRun [] h
 opened_run h A E = record { takes = tt; agrees = A; locks = E; leaves_nothing = nothing_left [] h A }
 
--- the node of an end is one of the world
-pub of_world : {N M : Type 0} (cluster lone : List ℕ) (es : List (NodeEnd N Logged M)) (old new : Held) (events : ℕ) (logs : List Logged)
-    → All IsFirst (cluster ++ lone) → Opens cluster lone old → RunsThrough logs events old new
+-- the nodes of ends are those of a world that was started with these lists
+pub of_opening : {N M : Type 0} (cluster lone : List ℕ) (es : List (NodeEnd N Logged M)) (h : Held)
+    → ((c : ℕ) → set_of (nodes_of h) c ≡ set_of (cluster ++ lone) c)
     → ((c : ℕ) → set_of (map (λ (e : NodeEnd N Logged M). e.log.node) es) c ≡ set_of (cluster ++ lone) c)
-    → All (λ (e : NodeEnd N Logged M). set_of (nodes_of new) e.log.node ≡ true) es
-of_world {N} {M} cluster lone es old new events logs first O R each k d l =
-    present_first (nodes_of new) c (λ x. ap (λ (p : ℕ → ℕ). p x) present) (first_of (cluster ++ lone) first c inside)
-    (ap (λ (n : NamedOpening). n.names (text_in c)) (still_opens cluster lone old new O R.kept)
-    ∙ some_passes (λ m. text_in m == text_in c) (cluster ++ lone) c inside (eq-eqb (text_in c) (text_in c) refl))
+    → All (λ (e : NodeEnd N Logged M). set_of (nodes_of h) e.log.node ≡ true) es
+of_opening {N} {M} cluster lone es h nodes each k d l =
+    nodes c ∙ sym (each c) ∙ set_of-at (map (λ (e : NodeEnd N Logged M). e.log.node) es) k c
+    (slice_get-map (λ (e : NodeEnd N Logged M). e.log.node) es k
+    ∙ ap (option_map (λ (e : NodeEnd N Logged M). e.log.node)) (slice_get-get_or es k d l))
   where
     c : ℕ
     c = (get_or es k d).log.node
 
-    inside : set_of (cluster ++ lone) c ≡ true
-    inside = sym (each c) ∙ set_of-at (map (λ (e : NodeEnd N Logged M). e.log.node) es) k c
-        (slice_get-map (λ (e : NodeEnd N Logged M). e.log.node) es k
-        ∙ ap (option_map (λ (e : NodeEnd N Logged M). e.log.node)) (slice_get-get_or es k d l))
+-- they are so behind a run
+pub of_world : {N M : Type 0} (es : List (NodeEnd N Logged M)) (old new : Held) (events : ℕ) (logs : List Logged)
+    → All IsFirst (nodes_of old) → All (λ (e : NodeEnd N Logged M). set_of (nodes_of old) e.log.node ≡ true) es
+    → RunsThrough logs events old new → All (λ (e : NodeEnd N Logged M). set_of (nodes_of new) e.log.node ≡ true) es
+of_world {N} {M} es old new events logs first inside R k d l =
+    present_first (nodes_of new) c (λ x. ap (λ (p : ℕ → ℕ). p x) present) (first_of (nodes_of old) first c (inside k d l))
+    (ap (λ (n : NamedOpening). n.names (text_in c)) R.kept.names
+    ∙ some_passes (λ m. text_in m == text_in c) (nodes_of old) c (inside k d l) (eq-eqb (text_in c) (text_in c) refl))
+  where
+    c : ℕ
+    c = (get_or es k d).log.node
 
     present : present_in (nodes_of new) ≡ (λ x. 1)
     present = ap (λ (w : NamedWorld). w.present) R.run.agrees.is_run

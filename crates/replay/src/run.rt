@@ -1,13 +1,14 @@
 //! Plays the logs of closed nodes on a world.
-ghost use Rattle.std.specs.Prelude.{◌≡◌, ◌++◌, ◌<◌, ℕ, [], true, false, None, Some, length, map, IfOk, IfErr, OnOk, All, slice_get};
+ghost use Rattle.std.specs.Prelude.{◌≡◌, ◌++◌, ◌<◌, ℕ, List, [], true, false, None, Some, length, map, IfOk, IfErr, OnOk, All, slice_get};
 ghost use Rattle.term.specs.NodeSets.{set_of};
+ghost use Rattle.term.specs.Nodes.{IsFirst};
 ghost use Rattle.cluster_world.specs.Held.{nodes_of};
 ghost use Rattle.cluster_world.specs.Seen.{names_of, seen};
 ghost use Rattle.node_log.specs.Openings.{repeats, start_refused};
 ghost use Rattle.replay.specs.Consistent.{AreConsistent, is_torn};
-ghost use Rattle.replay.specs.Ends.{end_of, logs_of, HasTableOf};
+ghost use Rattle.replay.specs.Ends.{end_of, logs_of, EndedWell, HasTableOf};
 ghost use Rattle.replay.specs.Playing.{IsRun};
-ghost use Rattle.replay.specs.Replaying.{RunsThrough, StopsLogs, AreAll, Differs, Replayed, IsFault};
+ghost use Rattle.replay.specs.Replaying.{Opens, RunsThrough, StopsLogs, AreAll, Differs, Replayed, IsFault};
 ghost use Rattle.replay.specs.Transcripts.{Fits};
 
 use crate::closed::Closed;
@@ -71,6 +72,30 @@ fn compare<N: Names<Memory = Global>>(
     }
 }
 
+/// Plays the logs of these ends on a world that has just opened, and compares the two: their last tables, and then what seats were answered.
+/// Gives the number of the logs' steps.
+fn play_and_compare<N: Names<Memory = Global>>(
+    alloc: Global,
+    world: &mut World<N>,
+    ends: &[NodeEnd<N>],
+    transcripts: &[Transcript],
+) -> Result<u64, CloseFault>
+    requires once { repeats (map (λ e. e.log.node) ends.now) ≡ false }
+    requires opens { IsRun [] world.old }
+    requires first { All IsFirst (nodes_of world.old) }
+    requires nodes { All (λ e. set_of (nodes_of world.old) e.log.node ≡ true) ends.now }
+    ensures ok { IfOk result (λ events. RunsThrough (logs_of (map (end_of N.contents) ends.now)) events world.old world.new) }
+    ensures tables { OnOk result (AreAll (HasTableOf (seen world.new)) (map (end_of N.contents) ends.now)) }
+    ensures transcripts { OnOk result (AreAll (Fits (logs_of (map (end_of N.contents) ends.now)) transcripts.now) transcripts.now) }
+    ensures refused { IfErr result (λ fault. (cluster lone : List ℕ) → Opens cluster lone world.old
+        → AreAll EndedWell (map (end_of N.contents) ends.now)
+        → IsFault cluster lone (map (end_of N.contents) ends.now) transcripts.now fault) }
+{
+    let events = play_logs(alloc, world, ends)?;
+    compare(alloc, world, ends, transcripts)?;
+    Ok(events)
+}
+
 /// Plays the logs of a closed cluster's nodes, merged by stamp and then node, on a world that is started with the same lists, and
 /// compares all answers, the nodes' last tables and what seats were answered. Where that succeeds, the run of the threads was one of
 /// the world's. `CloseFault` says what is refused, and in which order. It is `Torn` for ends alone that aren't consistent: some node,
@@ -95,7 +120,8 @@ pub fn replay<N: Names<Memory = Global>>(
     let Ok(mut world) = World::start(alloc, cluster, lone) else {
         return Err(CloseFault::Memory);
     };
-    let events = play_logs(alloc, &mut world, ends)?;
-    compare(alloc, &world, ends, transcripts)?;
-    Ok(Closed { events, world })
+    match play_and_compare(alloc, &mut world, ends, transcripts) {
+        Ok(events) => Ok(Closed { events, world }),
+        Err(fault) => Err(fault),
+    }
 }
