@@ -1,11 +1,10 @@
 //! A short text, the block that the names are made of.
-ghost use Rattle.std.specs.Prelude.{◌≡◌, nat_eq, Some, ⊤, MatchOption, MatchResult};
+ghost use Rattle.std.specs.Prelude.{◌≡◌, ◌≤◌, nat_eq, get_or, length, Some, ⊤, MatchOption, MatchResult};
 ghost use Rattle.std.specs.Cmp.Rules.{comparing, hashing};
 ghost use Rattle.std.specs.Hash as fed;
 ghost use Rattle.std.specs.Ordering.{nat_cmp, as_partial_cmp};
 ghost use Rattle.std.specs.List.{AllPass};
 ghost use Rattle.std.proofs.Common.{rules};
-ghost use Rattle.std.specs.Prelude.{get_or};
 ghost use Rattle.registry_model.specs.Process.{text_of};
 ghost use Rattle.term.specs.Spelling.{is_allowed as is_allowed_byte, IsFirstBad, IsText, SpellsText, RefusesText, bytes_of};
 ghost use Rattle.term.specs.Keys.{key_of as any_key};
@@ -65,17 +64,39 @@ fn byte_at(bytes: &[u8], place: usize) -> u64
     }
 }
 
+/// The key of a text of at least as many bytes as a key has.
+fn front_key(bytes: &[u8]) -> u64
+    requires { 8 ≤ length bytes.now }
+    ensures { result ≡ any_key bytes.now }
+{
+    u64::from_be_bytes([
+        bytes[0], bytes[1], bytes[2], bytes[3], bytes[4], bytes[5], bytes[6], bytes[7],
+    ])
+}
+
+/// The key of a text that may be shorter.
+fn short_key(bytes: &[u8]) -> u64
+    requires { IsText bytes.now }
+    ensures { result ≡ any_key bytes.now }
+{
+    let mut key = 0;
+    for place in 0..KEY_BYTES {
+        key = key * 256 + byte_at(bytes, place);
+    }
+    key
+}
+
 /// The key of a text.
 fn key_of(text: &str) -> u64
     requires { IsText text.now }
     ensures { result ≡ any_key text.now }
 {
     let bytes = text.as_bytes();
-    let mut key = 0;
-    for place in 0..KEY_BYTES {
-        key = key * 256 + byte_at(bytes, place);
+    if bytes.len() < KEY_BYTES {
+        short_key(bytes)
+    } else {
+        front_key(bytes)
     }
-    key
 }
 
 impl ShortText {
