@@ -6,7 +6,7 @@ use Rattle.std.proofs.lemmas.Bool.{eqb-true, eq-eqb}
 use Rattle.registry_model.specs.Process.{Process}
 use Rattle.protocol_model.specs.Letter.{Id, Client}
 use Rattle.protocol_model.specs.Event.{Answer, Refusal}
-use Rattle.protocol_model.specs.ClientLocks.{Try, gives, is_no_more, Tally, tallied, tally_after, tally_from, holds_count, Exclusion}
+use Rattle.protocol_model.specs.ClientLocks.{Try, gives, is_no_more, Tally, tallied, tally_after, tally_from, holds_count, ExclusionAfter}
 use Rattle.protocol_model.specs.World.{Opening, World, WorldEvent, place, opening_world, refusal, happens, accepted, answers, turn_of, run}
 use Rattle.moves.proofs.Rules.{answers_by}
 use Rattle.moves.proofs.Indices.{both}
@@ -93,7 +93,8 @@ module _ (o : Opening) (F : World → Type 0) (G : Grounds o F) where
       (record { number = 0; last = None }) p id x (fits_opens o p) refl
 
 -- no resource is held under two requesters at a node that runs
-pub exclusion_from : (F : Opening → World → Type 0) → ((o : Opening) → Grounds o (F o)) → Exclusion
+pub exclusion_from : (F : Opening → World → Type 0) → ((o : Opening) → Grounds o (F o))
+    → (o : Opening) (es : List WorldEvent) → ExclusionAfter o es (run o (opening_world o) es)
 exclusion_from F grounds o es c inside up p q r x y hp hq = eqb-true x y ((both (r == r) (x == y) (excluded o (F o)
     (grounds o) es c inside up p q (Client r x) (Client r y)
     (subst (λ (n : ℕ). 0 < n) (numbers_agree o (F o) (grounds o) es p (Client r x) c) hp)

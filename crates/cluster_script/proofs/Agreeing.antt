@@ -3,11 +3,12 @@ use Rattle.std.proofs.Common.{◌≡◌, List, [], ◌∷◌, refl, sym, ◌∙�
 use Rattle.std.proofs.lemmas.List.Sums.{fold-append}
 use Rattle.cluster_world.specs.NodeNames.{NamedOpening, opening_of}
 use Rattle.cluster_world.specs.NamedWorld.{NamedWorld, NamedEvent, opening_named, happens_named, run_named, as_events}
-use Rattle.cluster_world.specs.NamedLeftovers.{NothingIsLeftOfNames}
 use Rattle.cluster_world.specs.Agreeing.{HeadlineAfter}
 use Rattle.cluster_world.proofs.Lifting.{agreement}
 use Rattle.cluster_world.proofs.LeftOfNames.{nothing_is_left}
 use Rattle.cluster_script.specs.Script.{Outcome, behind, behind_all, events_by, events_by_all, LinesAgree, LinesLeaveNothing}
+use Rattle.cluster_world.specs.LeftoversOfWorlds.{NothingIsLeft}
+use Rattle.cluster_world.specs.WorldsOfNames.{of_names}
 
 module _ (o : NamedOpening) where
   -- the world behind lines is what their events make
@@ -28,5 +29,5 @@ module _ (o : NamedOpening) where
 
   -- nothing is left over there
   pub lines_leave_nothing : (outcomes : List Outcome) → LinesLeaveNothing o outcomes
-  lines_leave_nothing outcomes = subst (λ (w : NamedWorld). NothingIsLeftOfNames o (events outcomes) w)
+  lines_leave_nothing outcomes = subst (λ (w : NamedWorld). NothingIsLeft (of_names o) (events outcomes) w)
       (sym (behind_all_run (opening_named o) outcomes)) (nothing_is_left o (events outcomes))

@@ -10,7 +10,6 @@ use Rattle.term.specs.Spelling.{SpellsNodeName, RefusesText}
 use Rattle.cluster_world.specs.NodeNames.{NamedOpening, opening_of}
 use Rattle.cluster_world.specs.NamedWorld.{NamedWorld, opening_named, run_named, plain_events, as_events}
 use Rattle.cluster_world.specs.NamedScript.{events_in, printed, next_named, named_deliveries_left}
-use Rattle.cluster_world.specs.NamedLeftovers.{NothingIsLeftOfNames}
 use Rattle.cluster_world.specs.Openings.{named_opening}
 use Rattle.cluster_world.specs.Finishing.{next_to_finish, finishing_left}
 use Rattle.cluster_world.specs.Agreeing.{HeadlineAfter}
@@ -26,6 +25,8 @@ use Rattle.text_lines.specs.Writing.{AppendsPart}
 use Rattle.command_lines.specs.Commands.{unread, LineAsks}
 use Rattle.command_lines.specs.Grammar.{Scripted, Finish}
 use Rattle.command_lines.specs.Printing.{Shown, Shows, Refuses, Finished, shown_text, is_fine}
+use Rattle.cluster_world.specs.LeftoversOfWorlds.{NothingIsLeft}
+use Rattle.cluster_world.specs.WorldsOfNames.{of_names}
 
 -- the most deliveries of one `settle`
 unfoldable pub settle_limit : ℕ
@@ -199,7 +200,7 @@ LinesAgree o outcomes = HeadlineAfter (opening_of o) (as_events o (events_by_all
 
 -- and nothing is left over there
 abbrev pub LinesLeaveNothing : NamedOpening → List Outcome → Type 0
-LinesLeaveNothing o outcomes = NothingIsLeftOfNames o (events_by_all o (opening_named o) outcomes)
+LinesLeaveNothing o outcomes = NothingIsLeft (of_names o) (events_by_all o (opening_named o) outcomes)
     (behind_all o (opening_named o) outcomes)
 
 -- the lines behind the headers are played on a world that opened so, behind which the headline holds and nothing is left

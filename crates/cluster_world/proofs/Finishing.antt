@@ -10,11 +10,9 @@ use Rattle.getting_through.specs.NodeNames.{NamedOpening, opening_of as all_crea
 use Rattle.getting_through.specs.NamedWorld.{NamedWorld, NamedEvent, named_refusal, happens_named, run_named, opening_named, after_events}
 use Rattle.getting_through.specs.NamedScript.{next_named, named_deliveries_left}
 use Rattle.getting_through.specs.Restarts.{IsUp}
-use Rattle.getting_through.specs.NamedLeftovers.{NamesAreSettled}
 use Rattle.getting_through.specs.Lifted.{events_played}
 use Rattle.getting_through.specs.Answering.{NameCallsAreAnswered}
 use Rattle.getting_through.specs.NamedNoDeadEnd.{named_work}
-use Rattle.getting_through.specs.NamedGettingFree.{is_named_delivery_or_retry, named_pending, NamesLeadOn}
 use Rattle.getting_through.specs.NamedFinishing.{retried, first_refused}
 use Rattle.getting_through.specs.Settling.{IsFirstByName}
 use Rattle.getting_through.proofs.CallsAnswered.{rest_is_free}
@@ -34,6 +32,10 @@ use Rattle.cluster_world.specs.Seen.{names_of, named}
 use Rattle.cluster_world.specs.Settling.{HasNext, AreNext, PlaysOn, GoesOn}
 use Rattle.cluster_world.specs.Whole.{IsWhole}
 use Rattle.cluster_world.proofs.Settling.{settle-next, settle-none, keeps_on, plays_one, plays_along, goes_on, quiet_rests}
+use Rattle.getting_through.specs.Worlds.{IsSettled}
+use Rattle.getting_through.specs.WorldsOfNames.{of_names, is_named_delivery_or_retry}
+use Rattle.getting_through.specs.Pending.{pending}
+use Rattle.getting_through.specs.GettingFree.{LeadsOn}
 
 module _ (o : NamedOpening) where
   -- what comes next, by the next delivery and the first refused node
@@ -159,10 +161,10 @@ module _ (h : Held) (whole : IsWhole h) where
   -- a retry and deliveries behind it until no letter waits lower what is pending
   pub finish_lowers : (mid new : Held) (a b c : List Answer) → WaitsOn None h → RetriesInto h mid a b → Keeps h mid → Keeps mid new
       → PlaysOn next_named mid new b c → WaitsOn None new
-      → named_pending (names_of new) (named new) < named_pending (names_of h) (named h)
-  finish_lowers mid new a b c none R K L P end = subst (λ (k : ℕ). k < named_pending o (named h)) (sym stands)
+      → pending (of_names (names_of new)) (named new) < pending (of_names (names_of h)) (named h)
+  finish_lowers mid new a b c none R K L P end = subst (λ (k : ℕ). k < pending (of_names o) (named h)) (sym stands)
       (subst (λ (w : NamedWorld). next_named o w ≡ None → first_refused o w ≡ Some R.node → named_work o (retried o w R.node) ≤ most
-      → named_pending o (run_named o (retried o w R.node) (named_deliveries_left o most (retried o w R.node))) < named_pending o w)
+      → pending (of_names o) (run_named o (retried o w R.node) (named_deliveries_left o most (retried o w R.node))) < pending (of_names o) w)
       (sym whole.reached) (λ q e l. retry_lowers o whole.events R.node most q e l) none R.refused (omega arith))
     where
       o : NamedOpening
@@ -192,10 +194,10 @@ module _ (h : Held) (whole : IsWhole h) where
       ended : next_named o (run_named o w1 es) ≡ None
       ended = ap (next_named o) (sym made) ∙ ap (λ (p : NamedOpening). next_named p (named new)) (sym named_so) ∙ end
 
-      stands : named_pending (names_of new) (named new)
-          ≡ named_pending o (run_named o w1 (named_deliveries_left o most w1))
-      stands = ap (λ (p : NamedOpening). named_pending p (named new)) named_so
-          ∙ ap (named_pending o) (made ∙ ap (run_named o w1) (sym (all_deliveries o w1 es (named_work o w1) are ended)))
+      stands : pending (of_names (names_of new)) (named new)
+          ≡ pending (of_names o) (run_named o w1 (named_deliveries_left o most w1))
+      stands = ap (λ (p : NamedOpening). pending (of_names p) (named new)) named_so
+          ∙ ap (pending (of_names o)) (made ∙ ap (run_named o w1) (sym (all_deliveries o w1 es (named_work o w1) are ended)))
 
 -- what comes next, where it is a delivery
 pub more_delivers : (h : Held) → HasNext h → HasMore h
@@ -241,10 +243,10 @@ finishes old new now K P end = record { goes_on = G; ended = end; leads_on = lea
     es : List NamedEvent
     es = events_of G.events
 
-    leads : (before : List NamedEvent) → IsRunOf before old → NamesLeadOn o before (named old) es
+    leads : (before : List NamedEvent) → IsRunOf before old → LeadsOn (of_names o) before (named old) es
     leads before is = record {
       kinds = next_kinds o before es (subst (λ (w : NamedWorld). AreNext o (next_to_finish o) w es) is G.are);
-      settled = subst (NamesAreSettled o (before ++ es)) made settled;
+      settled = subst (IsSettled (of_names o)) made settled;
       free = λ c up. (rests c up).0;
       idle = λ c up. (rests c up).1;
       answered = subst (λ (w : NamedWorld). NameCallsAreAnswered (IsUp o w) (events_played o (before ++ es))) made
@@ -261,7 +263,7 @@ finishes old new now K P end = record { goes_on = G; ended = end; leads_on = lea
         nothing = nothing_next o v (ap (next_to_finish o) (made ∙ sym G.played.world)
             ∙ ap (λ (p : NamedOpening). next_to_finish p (named new)) (sym K.names) ∙ end)
 
-        settled : NamesAreSettled o (before ++ es) v
+        settled : IsSettled (of_names o) v
         settled = is_finished o (before ++ es) nothing.0 nothing.1
 
         rests : (c : ℕ) → IsUp o (run_named o (named old) es) c → (((run_named o (named old) es).world.node c).current ≡ Current.Free)

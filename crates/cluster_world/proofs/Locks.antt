@@ -13,10 +13,10 @@ use Rattle.world_events.specs.declared.events.WorldEvent.{WorldEvent}
 use Rattle.cluster_world.specs.Held.{Held}
 use Rattle.world_events.specs.Openings.{opening_with}
 use Rattle.getting_through.specs.NamedWorld.{NamedWorld, NamedEvent, as_events}
-use Rattle.getting_through.specs.NamedQuietCalls.{NamedQuietCalls}
 use Rattle.getting_through.proofs.NamedRuns.{tally-append}
-use Rattle.getting_through.proofs.Lifting.{client_locks as named_locks}
-use Rattle.getting_through.proofs.QuietNames.{quiet_calls}
+use Rattle.getting_through.specs.ClientLocks.{ClientLocks}
+use Rattle.getting_through.specs.WorldsOfNames.{of_names}
+use Rattle.getting_through.proofs.Lifting.{client_locks as locks_of_names, client_locks_of_their_nodes}
 use Rattle.cluster_world.specs.Seen.{names_of, opening_of, seen, named}
 use Rattle.cluster_world.specs.Playing.{events_of}
 use Rattle.cluster_world.specs.Agreeing.{AgreesAfter, Agrees}
@@ -24,11 +24,11 @@ use Rattle.cluster_world.specs.Locks.{LocksAfter, LocksBehind, NeverBothHold, Ha
 
 -- where the headline stands behind events, locks are so behind them
 pub locks_after : (es : List NamedEvent) (h : Held) → AgreesAfter es h
-    → LocksAfter (opening_of h) (as_events (names_of h) es) (seen h) × NamedQuietCalls (names_of h) es (named h)
+    → LocksAfter (opening_of h) (as_events (names_of h) es) (seen h) × ClientLocks (of_names (names_of h)) es (named h)
 locks_after es h A = (
   subst (λ (w : NamedWorld). LocksAfter (opening_of h) (as_events (names_of h) es) w.world) (sym A.is_run)
-      (named_locks (names_of h) es),
-  subst (λ (w : NamedWorld). NamedQuietCalls (names_of h) es w) (sym A.is_run) (quiet_calls (names_of h) es),
+      (client_locks_of_their_nodes (names_of h) es),
+  subst (λ (w : NamedWorld). ClientLocks (of_names (names_of h)) es w) (sym A.is_run) (locks_of_names (names_of h) es),
 )
 
 -- and behind what was run

@@ -6,7 +6,6 @@ use Rattle.getting_through.specs.NodeNames.{NamedOpening, opening_of as all_crea
 use Rattle.getting_through.specs.NamedWorld.{NamedWorld, NamedEvent, named_refusal, happens_named, run_named, after_events}
 use Rattle.getting_through.specs.NamedScript.{next_named, named_deliveries_left}
 use Rattle.getting_through.specs.Restarts.{IsUp}
-use Rattle.getting_through.specs.NamedLeftovers.{NamesAreQuiet}
 use Rattle.getting_through.specs.Lifted.{events_played}
 use Rattle.getting_through.specs.Settling.{SettlesByName}
 use Rattle.getting_through.specs.Answering.{DeletionsAreAnswered}
@@ -33,6 +32,8 @@ use Rattle.cluster_world.proofs.Locks.{locks_behind}
 use Rattle.cluster_world.proofs.Leftovers.{leaves_nothing}
 use Rattle.cluster_world.proofs.Running.{went_nowhere, stands_still, went_one, went_along}
 use Rattle.cluster_world.proofs.Steps.{core_name}
+use Rattle.getting_through.specs.Worlds.{IsQuiet}
+use Rattle.getting_through.specs.WorldsOfNames.{of_names}
 
 -- the deliveries of `settle` from a world on
 module _ (o : NamedOpening) where
@@ -59,15 +60,15 @@ module _ (o : NamedOpening) (es : List NamedEvent) (w : NamedWorld) (made : w �
   L : SettlesByName o es w
   L = subst (SettlesByName o es) (sym made) (settling_delivers_the_first o es)
 
-  pub quiet : NamesAreQuiet o es w
+  pub quiet : IsQuiet (of_names o) w
   quiet = L.quiet.0 (L.none.0 none)
 
   pub quiet_rests : IsAtRest (IsUp o w) (all_creations o) w.world
-  quiet_rests = subst (λ (v : NamedWorld). NamesAreQuiet o es v → IsAtRest (IsUp o v) (all_creations o) v.world) (sym made)
+  quiet_rests = subst (λ (v : NamedWorld). IsQuiet (of_names o) v → IsAtRest (IsUp o v) (all_creations o) v.world) (sym made)
       (quiet_names_rest o es) quiet
 
   pub quiet_answers : DeletionsAreAnswered (IsUp o w) (events_played o es) w.world
-  quiet_answers = subst (λ (v : NamedWorld). NamesAreQuiet o es v → DeletionsAreAnswered (IsUp o v) (events_played o es) v.world)
+  quiet_answers = subst (λ (v : NamedWorld). IsQuiet (of_names o) v → DeletionsAreAnswered (IsUp o v) (events_played o es) v.world)
       (sym made) (quiet_names_answer o es) quiet
 
 -- a delivery that was played leaves less work

@@ -6,7 +6,6 @@ use Rattle.getting_through.specs.NodeNames.{NamedOpening}
 use Rattle.getting_through.specs.NamedWorld.{NamedWorld, NamedEvent, AtNode, named_refusal, happens_named}
 use Rattle.getting_through.specs.NamedScript.{next_named}
 use Rattle.getting_through.specs.NamedFinishing.{first_refused}
-use Rattle.getting_through.specs.NamedGettingFree.{NamesLeadOn}
 use Rattle.term.specs.NodeSets.{with_older}
 use Rattle.node_core.specs.declared.Answer.{Answer}
 use Rattle.node_core.specs.Held.{Held as Core}
@@ -19,6 +18,8 @@ use Rattle.cluster_world.specs.Agreeing.{IsRunOf}
 use Rattle.cluster_world.specs.Playing.{Played, events_of}
 use Rattle.cluster_world.specs.Seen.{names_of, named}
 use Rattle.cluster_world.specs.Settling.{GoesOn}
+use Rattle.getting_through.specs.WorldsOfNames.{of_names}
+use Rattle.getting_through.specs.GettingFree.{LeadsOn}
 
 -- a retry of this node, if there is one
 abbrev pub retry_of : Option ℕ → Option NamedEvent
@@ -60,7 +61,7 @@ pub record Finishes (old new : Held) (given : List Answer) : Type 0 where
   pub goes_on : GoesOn next_to_finish old new given
   pub ended : next_to_finish (names_of new) (named new) ≡ None
   pub leads_on : (before : List NamedEvent) → IsRunOf before old
-      → NamesLeadOn (names_of old) before (named old) (events_of goes_on.events)
+      → LeadsOn (of_names (names_of old)) before (named old) (events_of goes_on.events)
 
 -- Of these events some were played, the first ones, with these answers, and memory was refused for the next
 pub record StopsFinishing (old new : Held) (given : List Answer) : Type 0 where

@@ -1,7 +1,9 @@
 pub use Rattle.getting_through.specs.NodeNames
 pub use Rattle.getting_through.specs.NamedWorld
 pub use Rattle.getting_through.specs.NamedScript
-pub use Rattle.getting_through.specs.NamedLeftovers
+pub use Rattle.getting_through.specs.Worlds
+pub use Rattle.getting_through.specs.WorldsOfNames
+pub use Rattle.getting_through.specs.Leftovers as LeftoversOfWorlds
 pub use Rattle.getting_through.specs.NobodyBack
 pub use Rattle.node_core.specs.Held as NodeCoreHeld
 pub use Rattle.node_core.specs.NodeEventsSeen

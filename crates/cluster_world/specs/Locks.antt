@@ -2,29 +2,30 @@
 use Rattle.std.specs.Prelude.{ℕ, Bool, true, false, ◌≡◌, ◌&&◌, ◌||◌, not, Option, None, is_some, List, [], ◌∷◌, ◌++◌}
 use Rattle.registry_model.specs.Process.{Text, Process}
 use Rattle.protocol_model.specs.ClientLocks.{Try, tally_from, last_try, is_won, is_no_more, gives}
-use Rattle.protocol_model.specs.LockAnswers.{ClientLocks}
 use Rattle.protocol_model.specs.Letter.{Id, Client}
 use Rattle.protocol_model.specs.World.{Opening, World, WorldEvent as AnyWorldEvent, in_world, left, opening_world, refusal, happens, answers, run}
 use Rattle.world_events.specs.declared.events.WorldEvent.{WorldEvent}
 use Rattle.cluster_world.specs.Held.{Held}
 use Rattle.world_events.specs.Openings.{opening_with}
 use Rattle.getting_through.specs.NamedWorld.{NamedEvent, as_events}
-use Rattle.getting_through.specs.NamedQuietCalls.{NamedQuietCalls}
 use Rattle.cluster_world.specs.Seen.{names_of, opening_of, seen, named}
 use Rattle.cluster_world.specs.Playing.{events_of}
 use Rattle.cluster_world.specs.Agreeing.{IsRunOf}
+use Rattle.getting_through.specs.Worlds.{of_nodes}
+use Rattle.getting_through.specs.ClientLocks.{ClientLocks}
+use Rattle.getting_through.specs.WorldsOfNames.{of_names}
 
 -- Clients' locks behind these events, of which the world now is: no resource is held under two requesters at a node that hasn't
 -- left it, they are counted by what is seen, and so is answered what comes next
 abbrev pub LocksAfter : Opening → List AnyWorldEvent → World → Type 0
-LocksAfter o es w = ClientLocks o es w
+LocksAfter o es w = ClientLocks (of_nodes o) es w
 
 -- Whatever made the old world what it was, that and then these events made the new one, locks exclude each other and are
--- answered so behind them all
+-- answered so behind them all: in the world of names, and in the world of nodes that it is
 abbrev pub LocksBehind : List WorldEvent → Held → Held → Type 0
 LocksBehind es old new = (before : List NamedEvent) → IsRunOf before old
     → LocksAfter (opening_of new) (as_events (names_of new) (before ++ events_of es)) (seen new)
-    × NamedQuietCalls (names_of new) (before ++ events_of es) (named new)
+    × ClientLocks (of_names (names_of new)) (before ++ events_of es) (named new)
 
 -- So it is in every world, whatever nodes it has and whichever of them are joined at first, after every list of
 -- events

@@ -1,8 +1,9 @@
 //! How a world is started.
 ghost use Rattle.std.specs.Prelude.{◌≡◌, [], None, map, IfOk, IfErr};
 ghost use Rattle.std.specs.List.{All};
-ghost use Rattle.getting_through.specs.NamedLeftovers.{NothingIsLeftOfNames};
+ghost use Rattle.getting_through.specs.Leftovers.{NothingIsLeft};
 ghost use Rattle.getting_through.specs.NamedWorld.{opening_named};
+ghost use Rattle.getting_through.specs.WorldsOfNames.{of_names};
 ghost use Rattle.term.specs.Nodes.{IsFirst};
 ghost use Rattle.term.specs.NodeSets.{IsNodeSet};
 ghost use Rattle.world_events.specs.Openings.{opening_core, start_refused, start_fault_of};
@@ -49,7 +50,7 @@ impl<N: Names<Memory = Global>> World<N> {
         ensures world { IfOk result (λ world. named world ≡ opening_named (names_of world)) }
         ensures agrees { IfOk result (λ world. AgreesAfter [] world) }
         ensures locks { IfOk result (λ world. LocksAfter (opening_of world) [] (seen world)) }
-        ensures leaves_nothing { IfOk result (λ world. NothingIsLeftOfNames (names_of world) [] (named world)) }
+        ensures leaves_nothing { IfOk result (λ world. NothingIsLeft (of_names (names_of world)) [] (named world)) }
         ensures first { IfOk result (λ world. All IsFirst (nodes_of world)) }
         ensures ok { IfOk result (λ world. start_refused cluster.now lone.now ≡ None) }
         ensures err { IfErr result (λ fault. start_refused cluster.now lone.now ≡ start_fault_of fault) }

@@ -13,12 +13,14 @@ use Rattle.protocol_model.specs.Node.{Node, Op, Current}
 use Rattle.protocol_model.specs.Course.{global_given}
 use Rattle.protocol_model.specs.World.{Opening, in_world, World, left, WorldEvent, opening_world, run}
 use Rattle.protocol_model.specs.ClientLocks.{is_no_more, Tally, tally_from, holds_count}
-use Rattle.protocol_model.specs.Leftovers.{Runs, IsQuiet, IsSettled, IsKnownDead, NothingIsLeft}
+use Rattle.protocol_model.specs.Quiet.{Runs}
 use Rattle.lock_answers.proofs.Nothing.{nothing_is_left as of_worlds}
 use Rattle.creations.specs.NodeNames.{NamedOpening, opening_of}
 use Rattle.creations.specs.NamedWorld.{NamedWorld, NamedEvent, has_started, after_events, as_events}
 use Rattle.creations.specs.Restarts.{who_left, IsUp}
-use Rattle.creations.specs.NamedLeftovers.{NamesAreQuiet, NamesAreSettled, NothingIsLeftOfNames, NamedNothingIsLeft}
+use Rattle.creations.specs.WorldsOfNames.{of_names, OfNames}
+use Rattle.lock_answers.specs.Worlds.{of_nodes, IsQuiet, IsSettled}
+use Rattle.lock_answers.specs.Leftovers.{IsKnownDead, NothingIsLeft}
 use Rattle.protocol_model.proofs.Courses.{run-append}
 use Rattle.creations.proofs.NamedRuns.{tally-append, named_runs_are_runs}
 use Rattle.creations.proofs.Lists.{Contains-filter, filter-Contains, rise-filter, nodes_rise, distinct_of}
@@ -89,11 +91,11 @@ module _ (o : NamedOpening) (es : List NamedEvent) where
   pub caught : CaughtUp O gone distinct_gone late w.world u
   caught = catch_up O gone distinct_gone late distinct_late w.world ready
 
-  here : NothingIsLeft O E w.world
-  here = subst (NothingIsLeft O E) (sym (named_runs_are_runs o es)) (of_worlds O E)
+  here : NothingIsLeft (of_nodes O) E w.world
+  here = subst (NothingIsLeft (of_nodes O) E) (sym (named_runs_are_runs o es)) (of_worlds O E)
 
-  there : NothingIsLeft O (E ++ F) u
-  there = subst (NothingIsLeft O (E ++ F))
+  there : NothingIsLeft (of_nodes O) (E ++ F) u
+  there = subst (NothingIsLeft (of_nodes O) (E ++ F))
       (run-append O (opening_world O) E F ∙ ap (λ (v : World). run O v F) (sym (named_runs_are_runs o es))) (of_worlds O (E ++ F))
 
   -- for nodes that have started it is the same
@@ -109,7 +111,7 @@ module _ (o : NamedOpening) (es : List NamedEvent) where
   runs : (c : ℕ) → IsUp o w c → Runs O u c
   runs c up = (up.inside, left_same c ∙ up.stays)
 
-  pub quiet : NamesAreQuiet o es w → IsQuiet O u
+  pub quiet : IsQuiet (of_names o) w → IsQuiet (of_nodes O) u
   quiet q f c i r = go (has_started o w c) refl
     where
       go : (b : Bool) → has_started o w c ≡ b → u.links.queue f c ≡ []
@@ -118,7 +120,7 @@ module _ (o : NamedOpening) (es : List NamedEvent) where
           caught.elsewhere f c (started_is_other c up) ∙ q f c i up
       go false e = caught.emptied f c (is_late c e r.0)
 
-  settled : NamesAreSettled o es w → IsSettled O u
+  settled : IsSettled (of_names o) w → IsSettled (of_nodes O) u
   settled t = record { quiet = quiet t.quiet; retried = λ c op r e. go c op r e (has_started o w c) refl }
     where
       go : (c : ℕ) (op : Op) → Runs O u c → (u.node c).current ≡ Current.Waiting op → (b : Bool) → has_started o w c ≡ b → ⊥
@@ -144,7 +146,7 @@ module _ (o : NamedOpening) (es : List NamedEvent) where
   gone_same p = ap (λ (b : Bool). b || is_dead (u.node p.node).watch p.serial) (left_same p.node)
       ∙ ap (λ (x : Watch). left w.world p.node || is_dead x p.serial) (caught.watch p.node)
 
-  dead_there : (p : Process) → IsKnownDead O w.world p → IsKnownDead O u p
+  dead_there : (p : Process) → IsKnownDead (of_names o) es w p → IsKnownDead (of_nodes O) (E ++ F) u p
   dead_there p e = ap (λ (d : Process → Bool). d p) caught.dead ∙ e
 
   has_grant : (c : ℕ) (g : Grant) → IsUp o w c → Contains (w.world.node c).locks g → Contains (u.node c).locks g
@@ -154,7 +156,7 @@ module _ (o : NamedOpening) (es : List NamedEvent) where
       → Contains (u.node c).replica.table pair
   has_pair c pair up i = subst (λ (v : Node). Contains v.replica.table pair) (sym (same c up)) i
 
-  nothing : NothingIsLeftOfNames o es w
+  nothing : NothingIsLeft (of_names o) es w
   nothing = record {
     stand = λ c up id p. here.stand c (up.inside, up.stays) id p;
     locks = λ c q up id p. ap (λ (v : Node). count id p v.locks) (sym (same c up)) ∙ there.locks c (quiet q) (runs c up) id p
@@ -179,5 +181,5 @@ module _ (o : NamedOpening) (es : List NamedEvent) where
         there.dead_owners c (settled t) (runs c up) pair (has_pair c pair up i) serial (dead_there pair.owner e);
   }
 
-pub nothing_is_left : NamedNothingIsLeft
+pub nothing_is_left : OfNames NothingIsLeft
 nothing_is_left o es = nothing o es

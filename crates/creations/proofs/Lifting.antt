@@ -1,29 +1,43 @@
--- What holds of all worlds holds of worlds of named nodes.
+-- What holds of all worlds of nodes holds of worlds of names.
 use Rattle.std.proofs.Common.{sym, subst}
-use Rattle.protocol_model.specs.World.{World}
-use Rattle.protocol_model.specs.Course.{seen}
-use Rattle.protocol_model.specs.Headline.{Headline}
-use Rattle.protocol_model.specs.ClientLocks.{ExclusionAfter}
-use Rattle.protocol_model.specs.LockAnswers.{ClientLocks}
-use Rattle.lock_answers.proofs.Theorem.{agreement as agreement_of_worlds}
-use Rattle.lock_answers.proofs.HeadlineClients.{exclusion as exclusion_of_worlds}
-use Rattle.lock_answers.proofs.ClientLocks.{client_locks as client_locks_of_worlds}
+use Rattle.lock_answers.proofs.Theorem.{agreement as agreement_of_nodes}
+use Rattle.lock_answers.proofs.HeadlineClients.{exclusion as exclusion_of_nodes}
+use Rattle.lock_answers.proofs.ClientLocks.{client_locks as client_locks_of_nodes}
+use Rattle.lock_answers.specs.Worlds.{of_nodes, Law, OfNodes, Agrees, Excludes}
+use Rattle.lock_answers.specs.ClientLocks.{ClientLocks}
 use Rattle.creations.specs.NodeNames.{opening_of}
 use Rattle.creations.specs.NamedWorld.{as_events}
-use Rattle.creations.specs.Lifted.{events_played, NamedAgreement, NamedExclusion, NamedClientLocks, AnswersStayAtTheirNode}
+use Rattle.creations.specs.WorldsOfNames.{OfNames, OfTheirNodes}
+use Rattle.creations.specs.Lifted.{AnswersStayAtTheirNode}
 use Rattle.creations.proofs.NamedRuns.{named_runs_are_runs}
+use Rattle.creations.proofs.QuietNames as Quiet
 
-pub agreement : NamedAgreement
-agreement o es = subst (λ (w : World). Headline (opening_of o) (events_played o es) (seen (opening_of o) w))
-    (sym (named_runs_are_runs o es)) (agreement_of_worlds (opening_of o) (as_events o es))
+-- a world of names is a world of nodes
+pub of_their_nodes : (L : Law) → OfNodes L → OfTheirNodes L
+of_their_nodes L law o es = subst (L (of_nodes (opening_of o)) (as_events o es)) (sym (named_runs_are_runs o es))
+    (law (opening_of o) (as_events o es))
 
-pub exclusion : NamedExclusion
-exclusion o es = subst (λ (w : World). ExclusionAfter (opening_of o) (as_events o es) w)
-    (sym (named_runs_are_runs o es)) (exclusion_of_worlds (opening_of o) (as_events o es))
+pub agreement : OfNames Agrees
+agreement = of_their_nodes Agrees agreement_of_nodes
 
-pub client_locks : NamedClientLocks
-client_locks o es = subst (λ (w : World). ClientLocks (opening_of o) (as_events o es) w)
-    (sym (named_runs_are_runs o es)) (client_locks_of_worlds (opening_of o) (as_events o es))
+pub exclusion : OfNames Excludes
+exclusion = of_their_nodes Excludes exclusion_of_nodes
+
+pub client_locks_of_their_nodes : OfTheirNodes ClientLocks
+client_locks_of_their_nodes = of_their_nodes ClientLocks client_locks_of_nodes
+
+pub client_locks : OfNames ClientLocks
+client_locks o es = record {
+  exclusion = exclusion o es;
+  reads = record {
+    refused = (client_locks_of_their_nodes o es).reads.refused;
+    waits = Quiet.waits o es;
+    gone = (client_locks_of_their_nodes o es).reads.gone;
+  };
+  answers = (client_locks_of_their_nodes o es).answers;
+  quiet = λ p r z target ds c. Quiet.told o es p r z target ds c;
+  answered = λ p r z target ds c. Quiet.answered o es p r z target ds c;
+}
 
 pub answers_stay_at_their_node : AnswersStayAtTheirNode
 answers_stay_at_their_node o es = (agreement o es).answered

@@ -16,15 +16,15 @@ use Rattle.protocol_model.specs.Course.{course}
 use Rattle.protocol_model.specs.Fit.{is_delivery}
 use Rattle.protocol_model.specs.Answers.{answers_under}
 use Rattle.protocol_model.specs.ClientLocks.{Try, waits_for_retry, is_no_more}
-use Rattle.protocol_model.specs.Leftovers.{IsQuiet}
-use Rattle.protocol_model.specs.QuietCalls.{called_once, IsFree, Tells, IsAnswerTo, IsQuietCall}
-use Rattle.protocol_model.specs.LockAnswers.{Tries, ClientLocks, watched, meets, tries_after, tries_from, tries_of}
+use Rattle.lock_answers.specs.Worlds.{of_nodes, IsQuiet}
+use Rattle.lock_answers.specs.QuietCalls.{called_once, IsFree, Tells, IsAnswerTo, IsQuietCall, AnswersIt}
+use Rattle.lock_answers.specs.ClientLocks.{ClientLocks}
+use Rattle.protocol_model.specs.LockAnswers.{Tries, watched, meets, tries_after, tries_from, tries_of}
 use Rattle.protocol_model.proofs.Courses.{run-append, course_answers}
 use Rattle.lock_answers.proofs.ClientLocks.{client_locks as of_worlds}
 use Rattle.creations.specs.NodeNames.{NamedOpening, opening_of}
 use Rattle.creations.specs.NamedWorld.{NamedWorld, NamedEvent, NamedRefusal, Plain, present_node, has_started, sender_to, named_refusal, plain_refusal, plain, plain_accepted, plain_events, accepted_named, happens_named, run_named}
-use Rattle.creations.specs.NamedLeftovers.{NamesAreQuiet}
-use Rattle.creations.specs.NamedQuietCalls.{called_once_named, is_named_delivery, IsNamedQuietCall, AnswersItNamed, QuietCallsOfNames}
+use Rattle.creations.specs.WorldsOfNames.{is_named_delivery, of_names}
 use Rattle.creations.proofs.NamedRuns.{run-plain, named_runs_are_runs}
 use Rattle.creations.proofs.Alike.{Alike, AreWithin, same_refusal, within-append, run_alike}
 use Rattle.creations.proofs.Standing.{Sound, present_started, least_started, unrefused}
@@ -211,8 +211,8 @@ module _ (o : NamedOpening) (es : List NamedEvent) where
       outside false c e = refl
 
   -- what is said of it there
-  there : ClientLocks O (E ++ F) u
-  there = subst (ClientLocks O (E ++ F))
+  there : ClientLocks (of_nodes O) (E ++ F) u
+  there = subst (ClientLocks (of_nodes O) (E ++ F))
       (run-append O (opening_world O) E F ∙ ap (λ (v : World). run O v F) (sym (named_runs_are_runs o es))) (of_worlds O (E ++ F))
 
   same_waiting : (p : Process) → waits_for_retry u p ≡ waits_for_retry w.world p
@@ -237,7 +237,7 @@ module _ (o : NamedOpening) (es : List NamedEvent) where
       (course_answers O (opening_world O) (E ++ F) ∙ answers_more O (opening_world O) E F told_silently
       ∙ sym (course_answers O (opening_world O) E))
 
-  waits : (p : Process) (t : Tries) → NamesAreQuiet o es w → is_no_more w.world p ≡ false → tries_of O E p ≡ Some t
+  pub waits : (p : Process) (t : Tries) → IsQuiet (of_names o) w → is_no_more w.world p ≡ false → tries_of O E p ≡ Some t
       → answers_under p.node t.last.number (course O (opening_world O) E) ≡ [] → waits_for_retry w.world p ≡ true
   waits p t q alive e none = sym (same_waiting p)
       ∙ there.reads.waits p later.0 (LeftOfNames.quiet o es q) (LeftOfNames.gone_same o es p ∙ alive)
@@ -251,26 +251,26 @@ module _ (o : NamedOpening) (es : List NamedEvent) where
           (run O (opening_world O) E) t
 
   -- a call and its letters
-  module _ (p : Process) (r z : Text) (target : Target) (ds : List NamedEvent) (c : IsNamedQuietCall o es w p r z target ds) where
+  module _ (p : Process) (r z : Text) (target : Target) (ds : List NamedEvent) (c : IsQuietCall (of_names o) es w p r z target ds) where
     abbrev call : NamedEvent
-    call = called_once_named p r z target
+    call = called_once (of_names o) p r z target
 
     abbrev plain_ds : List WorldEvent
     plain_ds = plain_events o (happens_named o w call) ds
 
     abbrev X : List WorldEvent
-    X = called_once p r z target ∷ plain_ds
+    X = called_once (of_nodes O) p r z target ∷ plain_ds
 
     plain_is : plain_events o w (call ∷ ds) ≡ X
     plain_is = ap (λ (x : Option NamedRefusal). (if is_none x then plain o w call else []) ++ plain_ds) c.accepted
 
-    fits : (S p.node ≡ true) × (refusal O w.world (called_once p r z target) ≡ None)
+    fits : (S p.node ≡ true) × (refusal O w.world (called_once (of_nodes O) p r z target) ≡ None)
     fits = by (S p.node) refl c.accepted
       where
         by : (b : Bool) → S p.node ≡ b
-            → (if b then plain_refusal o w (called_once p r z target) else Some (Plain NoSuchNode)) ≡ None
-            → (S p.node ≡ true) × (refusal O w.world (called_once p r z target) ≡ None)
-        by true k q = (k, (unrefused o w s (called_once p r z target) q).1)
+            → (if b then plain_refusal o w (called_once (of_nodes O) p r z target) else Some (Plain NoSuchNode)) ≡ None
+            → (S p.node ≡ true) × (refusal O w.world (called_once (of_nodes O) p r z target) ≡ None)
+        by true k q = (k, (unrefused o w s (called_once (of_nodes O) p r z target) q).1)
         by false k q = absurd (cc q)
 
     within : AreWithin O S X
@@ -283,10 +283,10 @@ module _ (o : NamedOpening) (es : List NamedEvent) where
     same_node : u.node p.node ≡ w.world.node p.node
     same_node = alike.node p.node fits.0
 
-    is_call : IsQuietCall O (E ++ F) u p r z target plain_ds
+    is_call : IsQuietCall (of_nodes O) (E ++ F) u p r z target plain_ds
     is_call = record {
       quiet = LeftOfNames.quiet o es c.quiet;
-      accepted = same_refusal O S w.world u alike (called_once p r z target) fits.0 ∙ fits.1;
+      accepted = same_refusal O S w.world u alike (called_once (of_nodes O) p r z target) fits.0 ∙ fits.1;
       delivered = plain_deliveries o ds (happens_named o w call) c.delivered;
     }
 
@@ -294,7 +294,7 @@ module _ (o : NamedOpening) (es : List NamedEvent) where
     same_given = behind.0 ∙ ap (λ (xs : List WorldEvent). all_answers O w.world xs) (sym plain_is)
 
     -- an answer there is one here, and the other way round
-    to_there : (x : Answer) → AnswersItNamed o es w p r z target ds x
+    to_there : (x : Answer) → AnswersIt (of_names o) es w p r z target ds x
         → IsAnswerTo p.node ((u.node p.node).last_call + 1) (all_answers O u X) x
     to_there x a = record {
       listed = subst (λ (xs : List Answer). Contains xs x) (sym same_given) a.listed;
@@ -303,7 +303,7 @@ module _ (o : NamedOpening) (es : List NamedEvent) where
     }
 
     from_there : (x : Answer) → IsAnswerTo p.node ((u.node p.node).last_call + 1) (all_answers O u X) x
-        → AnswersItNamed o es w p r z target ds x
+        → AnswersIt (of_names o) es w p r z target ds x
     from_there x a = record {
       listed = subst (λ (xs : List Answer). Contains xs x) same_given a.listed;
       node = a.node;
@@ -328,13 +328,13 @@ module _ (o : NamedOpening) (es : List NamedEvent) where
     tells_here asks reply (inl is) = inl (is.0, free_here asks is.1)
     tells_here asks reply (inr isnt) = inr (isnt.0, (λ f. isnt.1 (free_there asks f)))
 
-    told : (x : Answer) → AnswersItNamed o es w p r z target ds x
+    pub told : (x : Answer) → AnswersIt (of_names o) es w p r z target ds x
         → Tells (IsFree O E p r z (targets (w.world.node p.node).replica.members target)) x.reply
     told x a = subst (λ (v : Node). Tells (IsFree O E p r z (targets v.replica.members target)) x.reply) same_node
         (tells_here (targets (u.node p.node).replica.members target) x.reply
         (there.quiet p r z target plain_ds is_call x (to_there x a)))
 
-    answered : NamesAreQuiet o (es ++ call ∷ ds) (run_named o w (call ∷ ds)) → (x : Answer) × AnswersItNamed o es w p r z target ds x
+    pub answered : IsQuiet (of_names o) (run_named o w (call ∷ ds)) → (x : Answer) × AnswersIt (of_names o) es w p r z target ds x
     answered q =
         let given : (x : Answer) × IsAnswerTo p.node ((u.node p.node).last_call + 1) (all_answers O u X) x =
         there.answered p r z target plain_ds is_call quiet_there in (given.0, from_there given.0 given.1)
@@ -348,7 +348,7 @@ module _ (o : NamedOpening) (es : List NamedEvent) where
         started_is : has_started o v ≡ S
         started_is = all_same_started o (call ∷ ds) w (tt, deliveries_are o ds c.delivered)
 
-        quiet_there : IsQuiet O (run O u X)
+        quiet_there : IsQuiet (of_nodes O) (run O u X)
         quiet_there f n i runs = go (S n) refl
           where
             go : (b : Bool) → S n ≡ b → (run O u X).links.queue f n ≡ []
@@ -358,10 +358,3 @@ module _ (o : NamedOpening) (es : List NamedEvent) where
               stays = ap (λ (x : World). left x n) world_is ∙ ap (λ (x : Nodes). x n) (sym behind.1.departures) ∙ runs.1;
             })
             go false e = behind.1.late f n e
-
-pub quiet_calls : QuietCallsOfNames
-quiet_calls o es = record {
-  waits = waits o es;
-  told = λ p r z target ds c. told o es p r z target ds c;
-  answered = λ p r z target ds c. answered o es p r z target ds c;
-}

@@ -13,12 +13,12 @@ use Rattle.registry_model.proofs.HistoryParts.{registry_of-append}
 use Rattle.registry_model.proofs.Holding.{old_law}
 use Rattle.registry_model.proofs.Updates.{by_test}
 use Rattle.protocol_model.specs.World.{in_cluster}
-use Rattle.protocol_model.specs.Course.{Played, entries_of}
+use Rattle.protocol_model.specs.Course.{Played, Seen, entries_of, seen}
 use Rattle.protocol_model.specs.Headline.{Headline, Shows, standing}
 use Rattle.creations.specs.NodeNames.{opening_of}
 use Rattle.creations.specs.NamedWorld.{NamedWorld, present_node, after_events}
 use Rattle.creations.specs.Restarts.{IsUp}
-use Rattle.creations.specs.Lifted.{events_played, seen_after, RestartsAreLegal}
+use Rattle.creations.specs.Lifted.{events_played, RestartsAreLegal}
 use Rattle.creations.proofs.Lifting.{agreement}
 use Rattle.creations.proofs.Standing.{Sound}
 use Rattle.creations.proofs.Restarting.{MayRestart, may_restart, told_of_gone}
@@ -143,7 +143,10 @@ restarts_are_legal o es x r = record {
     ps : List Played
     ps = events_played o es
 
-    shown : Headline (opening_of o) ps (seen_after o es)
+    now : Seen
+    now = seen (opening_of o) w.world
+
+    shown : Headline (opening_of o) ps now
     shown = agreement o es
 
     cluster : Nodes
@@ -154,11 +157,11 @@ restarts_are_legal o es x r = record {
     same = (law cluster (entries_of ps)).registry ∙ ap (registry_of cluster) (sym shown.history)
 
     told : (c : ℕ) → IsUp o w c
-        → Shows (standing (opening_of o) ps).registry c (seen_after o es)
-        ⊎ Shows (old (standing (opening_of o) ps) c) c (seen_after o es)
+        → Shows (standing (opening_of o) ps).registry c now
+        ⊎ Shows (old (standing (opening_of o) ps) c) c now
         → (registry_of cluster w.world.history).told c (present_node o w x) ≡ true
-    told c up (inl now) = ap (λ (t : Registry). t.told c (present_node o w x)) (sym same)
-        ∙ ap (λ (v : Replica). v.told (present_node o w x)) (sym now) ∙ told_of_gone o w s x m c up
+    told c up (inl shows) = ap (λ (t : Registry). t.told c (present_node o w x)) (sym same)
+        ∙ ap (λ (v : Replica). v.told (present_node o w x)) (sym shows) ∙ told_of_gone o w s x m c up
     told c up (inr before) = ap (λ (h : List Entry). (registry_of cluster h).told c (present_node o w x)) shown.history
         ∙ old_tells cluster (entries_of ps) c c (present_node o w x)
         (ap (λ (v : Replica). v.told (present_node o w x)) (sym before) ∙ told_of_gone o w s x m c up)

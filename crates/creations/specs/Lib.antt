@@ -1,4 +1,8 @@
+pub use Rattle.lock_answers.specs.Worlds
 pub use Rattle.lock_answers.specs.Clauses
+pub use Rattle.lock_answers.specs.Leftovers
+pub use Rattle.lock_answers.specs.QuietCalls
+pub use Rattle.lock_answers.specs.ClientLocks
 pub mod NodeNames
 pub mod NamedWorld
 pub mod Restarts
@@ -7,8 +11,7 @@ pub mod Inherited
 pub mod NamedScript
 pub mod NamedCalls
 pub mod NamedRows
-pub mod NamedLeftovers
+pub mod WorldsOfNames
 pub mod NamedLinks
-pub mod NamedQuietCalls
 pub mod NobodyBack
 pub mod JoinNumbers

@@ -2,6 +2,9 @@
 //! is proved of worlds holds of it; each law is the contract of a function with an empty body.
 #![tactic(auto)]
 
+ghost use Rattle.lock_answers.specs.Worlds.{Agrees, Excludes};
+ghost use Rattle.lock_answers.specs.Leftovers.{NothingIsLeft};
+ghost use Rattle.lock_answers.specs.ClientLocks.{ClientLocks};
 ghost use Rattle.creations.specs.NodeNames.{NumbersAreExact, NumbersAreThoseOfTheProgram};
 ghost use Rattle.creations.specs.NamedWorld.{NamedRunsAreRuns};
 ghost use Rattle.creations.specs.Restarts.{NodesAlwaysStand, OlderLettersAreDropped, RestartIsItsNotices, RestartsSayWhy, RestartsStartAnew};
@@ -9,9 +12,8 @@ ghost use Rattle.creations.specs.JoinNumbers.{JoinNumbersSuffice};
 ghost use Rattle.creations.specs.Inherited.{NothingIsInherited};
 ghost use Rattle.creations.specs.NamedLinks.{LinksAreAlwaysByName};
 ghost use Rattle.creations.specs.NamedRows.{NamedComputes, name_comes_back, restart_waits_for_all, older_node_is_another, retry_asks_the_new_node, name_without_a_member, older_letters_are_dropped};
-ghost use Rattle.creations.specs.Lifted.{NamedAgreement, NamedExclusion, NamedClientLocks, RestartsAreLegal, AcceptedEventsArePlayed, AnswersStayAtTheirNode};
-ghost use Rattle.creations.specs.NamedLeftovers.{NamedNothingIsLeft};
-ghost use Rattle.creations.specs.NamedQuietCalls.{QuietCallsOfNames};
+ghost use Rattle.creations.specs.WorldsOfNames.{OfNames, OfTheirNodes};
+ghost use Rattle.creations.specs.Lifted.{RestartsAreLegal, AcceptedEventsArePlayed, AnswersStayAtTheirNode};
 ghost use Rattle.creations.specs.NamedCalls.{NamesAlwaysMeanMembers};
 ghost use Rattle.creations.specs.NobodyBack.{NobodyCameBack};
 
@@ -86,7 +88,7 @@ pub fn accepted_events_are_played()
 /// the granted operations in lock order, and whenever the lock is free, the replicas are that registry's. Each creation of a name is a node
 /// of its own in it.
 pub fn agreement()
-    ensures { NamedAgreement }
+    ensures { OfNames Agrees }
 {}
 
 /// Each answer there is given by the node of its event; a numbered one to a call of that node, and at most once.
@@ -96,20 +98,16 @@ pub fn answers_stay_at_their_node()
 
 /// Clients' locks exclude each other there, as in all worlds.
 pub fn exclusion()
-    ensures { NamedExclusion }
+    ensures { OfNames Excludes }
 {}
 
-/// Lock calls are answered there as in all worlds. What is said of a quiet world says nothing once a node has left: a `Down` waits then
-/// for each node that hasn't started. `quiet_calls` says it with these left out of account.
-pub fn client_locks()
-    ensures { NamedClientLocks }
-{}
-
-/// Lock calls in a quiet world, where the `Down`s that wait for nodes that haven't started are left out of account: a `set_lock` with no
+/// Lock calls are answered there as in all worlds, and so they are in the world of nodes that it is. In a quiet world a `set_lock` with no
 /// retries is answered `true` where the lock is free, and else `false`, and has been answered once no letter waits again; and a process
-/// that isn't dead waits for a retry, unless its last `set_lock` is answered.
-pub fn quiet_calls()
-    ensures { QuietCallsOfNames }
+/// that isn't dead waits for a retry, unless its last `set_lock` is answered. By names the `Down`s that wait for nodes that haven't started
+/// are left out of account: in the world of nodes one waits for each of them once a node has left, and so that isn't quiet any more.
+pub fn client_locks()
+    ensures names { OfNames ClientLocks }
+    ensures nodes { OfTheirNodes ClientLocks }
 {}
 
 /// A lock call by names asks, at a running node, exactly the members that have one of these names then, and misses a member exactly where
@@ -127,7 +125,7 @@ pub fn nobody_came_back()
 /// Nothing is left over there, as in all worlds: once no letter waits for a running node, nobody keeps a lock or a life, nor a name on a
 /// node that has left; once no operation waits for a retry either, no dead process has a name.
 pub fn nothing_is_left()
-    ensures { NamedNothingIsLeft }
+    ensures { OfNames NothingIsLeft }
 {}
 
 /// Each restart is legal by the registry, too: the node before has left, and each running node was told so.

@@ -11,7 +11,6 @@ use Rattle.protocol_model.specs.Watch.{is_dead}
 use Rattle.protocol_model.specs.Node.{Node, targets}
 use Rattle.protocol_model.specs.Event.{Call, Event, Answer, Refusal, first_cause, calls_spent}
 use Rattle.protocol_model.specs.ClientLocks.{Try, last_try, is_true_to, is_won, gives, is_no_more, Tally, tallied, tally_after, tally_from, holds_count}
-use Rattle.protocol_model.specs.Leftovers.{world}
 use Rattle.protocol_model.specs.World.{Opening, World, left, WorldEvent, At, Deliver, place, opening_world, local_causes, refusal, happens, accepted, answers, turn_of}
 use Rattle.protocol_model.proofs.Courses.{run-append}
 use Rattle.protocol_model.proofs.Finding.{none_found_in}
@@ -22,6 +21,7 @@ use Rattle.creations.proofs.Pushed.{happens_now, answer_place}
 use Rattle.creations.proofs.Growing.{left_by}
 use Rattle.creations.proofs.NamedRuns.{tally-append}
 use Rattle.fences.proofs.Orders.{AreElsewhere}
+use Rattle.creations.specs.Clauses.{world}
 
 -- no tally so far
 abbrev pub nothing : Tally

@@ -8,7 +8,6 @@ use Rattle.protocol_model.specs.Answers.{calls_at}
 use Rattle.protocol_model.specs.Course.{course}
 use Rattle.protocol_model.specs.ClientLocks.{last_try, is_true_to, is_won, gives, is_no_more, Tally, holds_count}
 use Rattle.protocol_model.specs.LockAnswers.{Tries, tries_of}
-use Rattle.protocol_model.specs.Leftovers.{world}
 use Rattle.protocol_model.specs.World.{Opening, WorldEvent, opening_world, refusal, happens, answers}
 use Rattle.protocol_model.proofs.Finding.{found_any}
 use Rattle.protocol_model.proofs.Ids.{is_id_self}
@@ -17,6 +16,7 @@ use Rattle.creations.proofs.LastCalls.{IsSet, is_set}
 use Rattle.creations.proofs.Living.{answers_the_living}
 use Rattle.fences.specs.Grants.{true_to}
 use Rattle.fences.proofs.Elsewhere.{tally, tally_push, counted}
+use Rattle.creations.specs.Clauses.{world}
 
 module _ (o : Opening) (es : List WorldEvent) (e : WorldEvent) (is : refusal o (world o es) e ≡ None) (p : Process) (t : Tries)
     (told : tries_of o (es ++ e ∷ []) p ≡ Some t) (given : Contains (answers o (world o es) e) (true_to p t)) where

@@ -7,7 +7,7 @@ use Rattle.protocol_model.specs.LockTable.{Locks, count}
 use Rattle.protocol_model.specs.Event.{Answer}
 use Rattle.protocol_model.specs.ClientLocks.{holds_count}
 use Rattle.protocol_model.specs.LockAnswers.{Tries, is_asked_first, tries_of}
-use Rattle.protocol_model.specs.Leftovers.{Runs}
+use Rattle.protocol_model.specs.Quiet.{Runs}
 use Rattle.protocol_model.specs.World.{Opening, in_world, World, WorldEvent, Deliver, opening_world}
 use Rattle.closings.specs.Merging.{Step, IsInOrder, happening, events_in, world_behind, TakesAll}
 

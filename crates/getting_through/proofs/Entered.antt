@@ -10,7 +10,6 @@ use Rattle.protocol_model.specs.Event.{Answer}
 use Rattle.protocol_model.specs.World.{Opening, in_world, World, WorldEvent, opening_world, refusal, happens, run}
 use Rattle.protocol_model.specs.Course.{Played, played, entries_of, answers_of, course}
 use Rattle.protocol_model.specs.Answers.{entered_at}
-use Rattle.protocol_model.specs.Leftovers.{IsQuiet, world}
 use Rattle.protocol_model.proofs.Courses.{run-append}
 use Rattle.no_dead_end.proofs.Invariants.{IsUp, IsProperCurrent}
 use Rattle.no_dead_end.proofs.Tokens.{Gate, Away, Knock, Wait, Turned, Entering}
@@ -25,6 +24,8 @@ use Rattle.no_dead_end.proofs.HeadlineTheorem.{history_grows}
 use Rattle.no_dead_end.proofs.Together.{Whole, whole_opens}
 use Rattle.no_dead_end.proofs.Families.{Whole as WholeWorld, whole}
 use Rattle.no_dead_end.proofs.Quiet.{at_ease, registrars}
+use Rattle.no_dead_end.specs.Worlds.{of_nodes, IsQuiet}
+use Rattle.no_dead_end.specs.Clauses.{world}
 
 -- one list of events after another
 pub course-append : (o : Opening) (w : World) (xs ys : List WorldEvent)
@@ -53,7 +54,7 @@ brought {A} {B} f (z ∷ xs) x y c d = elim (Contains-cases z xs x c) [
   | inr more ↦ Contains-append_right (f z) (flat_map f xs) y (brought f xs x y more d)
 ]
 
-module _ (o : Opening) (es : List WorldEvent) (Q : IsQuiet o (world o es)) (a : ℕ) (up : IsUp o (world o es) a) where
+module _ (o : Opening) (es : List WorldEvent) (Q : IsQuiet (of_nodes o) (world o es)) (a : ℕ) (up : IsUp o (world o es) a) where
   abbrev w : World
   w = world o es
 

@@ -12,7 +12,7 @@ use Rattle.protocol_model.specs.Event.{Event, Refusal, is_waiting, is_waiting_ca
 use Rattle.protocol_model.specs.World.{Opening, in_world, World, left, WorldEvent, At, Deliver, opening_world, refusal, accepted, happens, run, next_delivery, deliveries_left}
 use Rattle.protocol_model.specs.Delivering.{IsFirstDelivery}
 use Rattle.protocol_model.specs.Course.{course}
-use Rattle.protocol_model.specs.Leftovers.{Always, Runs, IsQuiet, IsSettled, world}
+use Rattle.protocol_model.specs.Quiet.{Runs}
 use Rattle.protocol_model.proofs.Courses.{run-append}
 use Rattle.protocol_model.proofs.Deliveries.{delivers_the_first}
 use Rattle.no_dead_end.proofs.Indices.{both}
@@ -27,12 +27,14 @@ use Rattle.no_dead_end.proofs.CallsAnswered.{rest_is_free, settled_worlds_answer
 use Rattle.no_dead_end.proofs.Deliveries.{settles}
 use Rattle.no_dead_end.proofs.QuietWorlds.{quiet_worlds_rest}
 use Rattle.getting_through.specs.Pending.{pending}
-use Rattle.getting_through.specs.GettingThrough.{IsStorm, is_delivery_or_retry}
-use Rattle.getting_through.specs.GettingFree.{is_retry, retries, Storms, Calm, Storm, PendingStays, RegistrarsGetFree, StormsAreFew}
+use Rattle.getting_through.specs.GettingThrough.{IsStorm}
+use Rattle.getting_through.specs.GettingFree.{is_retry, retries, Storms, Calm, Storm, PendingStays, StormsAreFew, FewRetriesFree}
 use Rattle.getting_through.proofs.Storm.{is_mild, is_decision}
 use Rattle.getting_through.proofs.PendingRules.{decided_one}
 use Rattle.getting_through.proofs.StormEvents.{mild_letters, mild_first, mild_again, lower}
 use Rattle.getting_through.proofs.Laws.{someone_gets_through}
+use Rattle.no_dead_end.specs.Worlds.{of_nodes, OfNodes, IsQuiet, IsSettled, is_delivery_or_retry}
+use Rattle.no_dead_end.specs.Clauses.{Always, world}
 
 -- retries of two lists
 retries_append : (xs ys : List WorldEvent) → retries (xs ++ ys) ≡ retries xs + retries ys
@@ -72,53 +74,53 @@ module _ (o : Opening) where
 
   -- What is pending stays below what it was
   chain_stays : (t : ℕ) (rs : List Rule) (v : World) → Kept v → Rules.MayAll o t rs v → list_all (is_mild true) rs ≡ true
-      → pending o (Rules.effects o t rs v) ≤ pending o v
+      → pending (of_nodes o) (Rules.effects o t rs v) ≤ pending (of_nodes o) v
   chain_stays t [] v k m h = omega arith
   chain_stays t (r ∷ rs) v k m h =
       let p : (is_mild true r ≡ true) × (list_all (is_mild true) rs ≡ true) =
       both (is_mild true r) (list_all (is_mild true) rs) h in
       let B : Base o (Rules.effect o t r v) = base_keeps o t v r k.base m.0 in
-      let less : pending o (Rules.effect o t r v) + decided_one (is_decision r) ≤ pending o v =
+      let less : pending (of_nodes o) (Rules.effect o t r v) + decided_one (is_decision r) ≤ pending (of_nodes o) v =
       lower o t v k.base k.here r m.0 p.0 in
-      let more : pending o (Rules.effects o t rs (Rules.effect o t r v)) ≤ pending o (Rules.effect o t r v) =
+      let more : pending (of_nodes o) (Rules.effects o t rs (Rules.effect o t r v)) ≤ pending (of_nodes o) (Rules.effect o t r v) =
       chain_stays t rs (Rules.effect o t r v) (record { base = B; here = keeps o t v r k.base B m.0 k.here }) m.1 p.1 in
       omega (arith, less, more)
 
   event_stays : (e : WorldEvent) → is_delivery_or_retry e ≡ true → (v : World) → Kept v → refusal o v e ≡ None
-      → pending o (accepted o v e) ≤ pending o v
+      → pending (of_nodes o) (accepted o v e) ≤ pending (of_nodes o) v
   event_stays (Deliver f t) s v k e =
       let h : OrderedWalk o v (Deliver f t) = walked_in_order o v (Deliver f t) k.base.ordered (wide o v k.base) e in
-      subst (λ (x : World). pending o x ≤ pending o v) h.walk.world
+      subst (λ (x : World). pending (of_nodes o) x ≤ pending (of_nodes o) v) h.walk.world
       (chain_stays t (Rules.first_by_letter o t f (v.links.queue f t) ++ h.walk.rest) v k h.walk.may
       (list_all-append (is_mild true) (Rules.first_by_letter o t f (v.links.queue f t)) h.walk.rest
       ∙ ap (λ (c : Bool). c && list_all (is_mild true) h.walk.rest) (mild_first o true t f (v.links.queue f t))
       ∙ mild_letters true h.walk.rest h.walk.quiet h.allowed))
   event_stays (At c Event.Retry) s v k e =
       let h : OrderedWalk o v (At c Event.Retry) = walked_in_order o v (At c Event.Retry) k.base.ordered (wide o v k.base) e in
-      subst (λ (x : World). pending o x ≤ pending o v) h.walk.world
+      subst (λ (x : World). pending (of_nodes o) x ≤ pending (of_nodes o) v) h.walk.world
       (chain_stays c h.walk.rest v k h.walk.may (mild_again h.walk.rest h.walk.quiet))
   event_stays (At c (Event.Calling x)) s v k e = cc s
   event_stays (At c (Event.Exiting p)) s v k e = cc s
   event_stays (At c Event.Leave) s v k e = cc s
 
   happens_stays : (e : WorldEvent) → is_delivery_or_retry e ≡ true → (v : World) → Kept v
-      → (pending o (happens o v e) ≤ pending o v) × Kept (happens o v e)
+      → (pending (of_nodes o) (happens o v e) ≤ pending (of_nodes o) v) × Kept (happens o v e)
   happens_stays e s v k = go (refusal o v e) refl
     where
-      go : (x : Option Refusal) → refusal o v e ≡ x → (pending o (if is_none x then accepted o v e else v) ≤ pending o v)
+      go : (x : Option Refusal) → refusal o v e ≡ x → (pending (of_nodes o) (if is_none x then accepted o v e else v) ≤ pending (of_nodes o) v)
           × Kept (if is_none x then accepted o v e else v)
       go (Some x) h = (omega arith, k)
       go None h = (event_stays e s v k h, both_event o (AdmitsJoined o) (keeps o) v e k h)
 
   run_stays : (fs : List WorldEvent) → list_all is_delivery_or_retry fs ≡ true → (v : World) → Kept v
-      → pending o (run o v fs) ≤ pending o v
+      → pending (of_nodes o) (run o v fs) ≤ pending (of_nodes o) v
   run_stays [] s v k = omega arith
   run_stays (e ∷ fs) s v k =
       let p : (is_delivery_or_retry e ≡ true) × (list_all is_delivery_or_retry fs ≡ true) =
       both (is_delivery_or_retry e) (list_all is_delivery_or_retry fs) s in
-      let h : (pending o (happens o v e) ≤ pending o v) × Kept (happens o v e) = happens_stays e p.0 v k in
-      let more : pending o (run o (happens o v e) fs) ≤ pending o (happens o v e) = run_stays fs p.1 (happens o v e) h.1 in
-      let one : pending o (happens o v e) ≤ pending o v = h.0 in omega (arith, one, more)
+      let h : (pending (of_nodes o) (happens o v e) ≤ pending (of_nodes o) v) × Kept (happens o v e) = happens_stays e p.0 v k in
+      let more : pending (of_nodes o) (run o (happens o v e) fs) ≤ pending (of_nodes o) (happens o v e) = run_stays fs p.1 (happens o v e) h.1 in
+      let one : pending (of_nodes o) (happens o v e) ≤ pending (of_nodes o) v = h.0 in omega (arith, one, more)
 
   -- what is left to deliver is deliveries
   abbrev Deliveries : List WorldEvent → Type 0
@@ -153,10 +155,10 @@ module _ (o : Opening) where
 
   -- Events behind which a world is settled
   abbrev Freed : List WorldEvent → Type 0
-  Freed es = (fs : List WorldEvent) × (list_all is_delivery_or_retry fs ≡ true) × (retries fs ≤ pending o (world o es))
-      × IsSettled o (run o (world o es) fs)
+  Freed es = (fs : List WorldEvent) × (list_all is_delivery_or_retry fs ≡ true) × (retries fs ≤ pending (of_nodes o) (world o es))
+      × IsSettled (of_nodes o) (run o (world o es) fs)
 
-  none_left : (es : List WorldEvent) → IsQuiet o (world o es) → NoneBelow (Runs o (world o es)) o.bound (world o es) → Freed es
+  none_left : (es : List WorldEvent) → IsQuiet (of_nodes o) (world o es) → NoneBelow (Runs o (world o es)) o.bound (world o es) → Freed es
   none_left es Q none = (
     [],
     refl,
@@ -168,18 +170,18 @@ module _ (o : Opening) where
   )
 
   join : (es fs : List WorldEvent) → list_all is_delivery_or_retry fs ≡ true → Freed (es ++ fs)
-      → retries fs + pending o (world o (es ++ fs)) ≤ pending o (world o es) → Freed es
+      → retries fs + pending (of_nodes o) (world o (es ++ fs)) ≤ pending (of_nodes o) (world o es) → Freed es
   join es fs k R le = (
     fs ++ R.0,
     list_all-append is_delivery_or_retry fs R.0 ∙ ap (λ (b : Bool). b && list_all is_delivery_or_retry R.0) k ∙ R.1,
-    (let few : retries R.0 ≤ pending o (world o (es ++ fs)) = R.2 in
+    (let few : retries R.0 ≤ pending (of_nodes o) (world o (es ++ fs)) = R.2 in
         let all : retries (fs ++ R.0) ≡ retries fs + retries R.0 = retries_append fs R.0 in omega (arith, few, all, le)),
-    subst (IsSettled o) (ap (λ (v : World). run o v R.0) (run-append o (opening_world o) es fs)
+    subst (IsSettled (of_nodes o)) (ap (λ (v : World). run o v R.0) (run-append o (opening_world o) es fs)
         ∙ sym (run-append o (world o es) fs R.0)) R.3,
   )
 
   -- a refused registrar is retried in a quiet world, and letters are delivered until none waits
-  module _ (es : List WorldEvent) (Q : IsQuiet o (world o es)) (f : Refused (Runs o (world o es)) (world o es)) where
+  module _ (es : List WorldEvent) (Q : IsQuiet (of_nodes o) (world o es)) (f : Refused (Runs o (world o es)) (world o es)) where
     abbrev again : WorldEvent
     again = At f.0 Event.Retry
 
@@ -192,10 +194,10 @@ module _ (o : Opening) where
     allowed : refusal o (world o es) again ≡ None
     allowed = may_retry (world o es) f.0 f.1 f.2 f.3
 
-    quiet : IsQuiet o (run o asked rest)
+    quiet : IsQuiet (of_nodes o) (run o asked rest)
     quiet = settles o (work o asked) asked (happens_stays again refl (world o es) (known o es)).1 (omega arith)
 
-    less : pending o (run o (world o es) (again ∷ rest)) < pending o (world o es)
+    less : pending (of_nodes o) (run o (world o es) (again ∷ rest)) < pending (of_nodes o) (world o es)
     less = (someone_gets_through o es f.0 f.1 [] rest f.2 f.3 (record {
       before = Q;
       first = refl;
@@ -208,22 +210,22 @@ module _ (o : Opening) where
     same = run-append o (opening_world o) es (again ∷ rest)
 
   -- so all are free in the end, from a quiet world
-  quietly : (n : ℕ) (es : List WorldEvent) → IsQuiet o (world o es) → pending o (world o es) ≤ n → Freed es
+  quietly : (n : ℕ) (es : List WorldEvent) → IsQuiet (of_nodes o) (world o es) → pending (of_nodes o) (world o es) ≤ n → Freed es
   quietly zero es Q l = elim (refused_below (Runs o (world o es)) (is_running (world o es)) (world o es) o.bound) [
-    | inl f ↦ let h : pending o (run o (world o es) (again es Q f ∷ rest es Q f)) < pending o (world o es) = less es Q f in
+    | inl f ↦ let h : pending (of_nodes o) (run o (world o es) (again es Q f ∷ rest es Q f)) < pending (of_nodes o) (world o es) = less es Q f in
         absurd (omega (arith, h, l))
     | inr none ↦ none_left es Q none
   ]
   quietly (suc n) es Q l = elim (refused_below (Runs o (world o es)) (is_running (world o es)) (world o es) o.bound) [
     | inl f ↦
-        let h : pending o (run o (world o es) (again es Q f ∷ rest es Q f)) < pending o (world o es) = less es Q f in
-        let now : pending o (world o (es ++ again es Q f ∷ rest es Q f))
-        ≡ pending o (run o (world o es) (again es Q f ∷ rest es Q f)) =
-        ap (pending o) (same es Q f) in
+        let h : pending (of_nodes o) (run o (world o es) (again es Q f ∷ rest es Q f)) < pending (of_nodes o) (world o es) = less es Q f in
+        let now : pending (of_nodes o) (world o (es ++ again es Q f ∷ rest es Q f))
+        ≡ pending (of_nodes o) (run o (world o es) (again es Q f ∷ rest es Q f)) =
+        ap (pending (of_nodes o)) (same es Q f) in
         let D : Deliveries (rest es Q f) = left_delivers (work o (asked es Q f)) (asked es Q f) in
         let none : retries (rest es Q f) ≡ 0 = D.1 in
         join es (again es Q f ∷ rest es Q f) D.0
-        (quietly n (es ++ again es Q f ∷ rest es Q f) (subst (IsQuiet o) (sym (same es Q f)) (quiet es Q f))
+        (quietly n (es ++ again es Q f ∷ rest es Q f) (subst (IsQuiet (of_nodes o)) (sym (same es Q f)) (quiet es Q f))
         (omega (arith, h, now, l)))
         (omega (arith, h, now, none))
     | inr none ↦ none_left es Q none
@@ -231,11 +233,11 @@ module _ (o : Opening) where
 
   -- and from any
   freed : (es : List WorldEvent) → Freed es
-  freed es = join es ds D.0 (quietly (pending o (world o (es ++ ds))) (es ++ ds)
-      (subst (IsQuiet o) (sym there) (settles o (work o (world o es)) (world o es) (known o es) (omega arith))) (omega arith))
+  freed es = join es ds D.0 (quietly (pending (of_nodes o) (world o (es ++ ds))) (es ++ ds)
+      (subst (IsQuiet (of_nodes o)) (sym there) (settles o (work o (world o es)) (world o es) (known o es) (omega arith))) (omega arith))
       (let none : retries ds ≡ 0 = D.1 in
-      let now : pending o (world o (es ++ ds)) ≡ pending o (run o (world o es) ds) = ap (pending o) there in
-      let less : pending o (run o (world o es) ds) ≤ pending o (world o es) = run_stays ds D.0 (world o es) (known o es) in
+      let now : pending (of_nodes o) (world o (es ++ ds)) ≡ pending (of_nodes o) (run o (world o es) ds) = ap (pending (of_nodes o)) there in
+      let less : pending (of_nodes o) (run o (world o es) ds) ≤ pending (of_nodes o) (world o es) = run_stays ds D.0 (world o es) (known o es) in
       omega (arith, none, now, less))
     where
       ds : List WorldEvent
@@ -248,21 +250,21 @@ module _ (o : Opening) where
       there = run-append o (opening_world o) es ds
 
 -- so it is of every world that events can reach
-pub pending_never_rises : Always PendingStays
+pub pending_never_rises : OfNodes PendingStays
 pending_never_rises o es fs s = run_stays o fs s (world o es) (known o es)
 
-pub registrars_get_free : Always RegistrarsGetFree
+pub registrars_get_free : Always FewRetriesFree
 registrars_get_free o es = (
   F.0,
   record {
     kinds = F.1;
-    few = F.2;
     settled = F.3;
     free = λ c up. (rests c up).0;
     idle = λ c up. (rests c up).1;
     answered = subst (λ (v : World). NameCallsAreAnswered (Runs o v) (course o (opening_world o) (es ++ F.0))) there
         (settled_worlds_answer o (es ++ F.0) settled);
   },
+  F.2,
 )
   where
     F : Freed o es
@@ -271,8 +273,8 @@ registrars_get_free o es = (
     there : world o (es ++ F.0) ≡ run o (world o es) F.0
     there = run-append o (opening_world o) es F.0
 
-    settled : IsSettled o (world o (es ++ F.0))
-    settled = subst (IsSettled o) (sym there) F.3
+    settled : IsSettled (of_nodes o) (world o (es ++ F.0))
+    settled = subst (IsSettled (of_nodes o)) (sym there) F.3
 
     rests : (c : ℕ) → Runs o (run o (world o es) F.0) c
         → (((run o (world o es) F.0).node c).current ≡ Current.Free) × (((run o (world o es) F.0).node c).queue ≡ [])
@@ -284,19 +286,19 @@ registrars_get_free o es = (
 module _ (o : Opening) where
   abbrev pub Lowers : World → Type 0
   Lowers v = (a : ℕ) (op : Op) (xs ys : List WorldEvent) → Runs o v a → (v.node a).current ≡ Current.Waiting op
-      → IsStorm o v a xs ys → pending o (run o v (xs ++ At a Event.Retry ∷ ys)) < pending o v
+      → IsStorm (of_nodes o) v a xs ys → pending (of_nodes o) (run o v (xs ++ At a Event.Retry ∷ ys)) < pending (of_nodes o) v
 
   pub lowers : (es : List WorldEvent) (v : World) → v ≡ world o es → Lowers v
   lowers es v e = subst Lowers (sym e) (λ a op xs ys up waits S. (someone_gets_through o es a op xs ys up waits S).5)
 
-  few_storms : (es : List WorldEvent) (v : World) (n : ℕ) → v ≡ world o es → Storms o v n → n ≤ pending o v
+  few_storms : (es : List WorldEvent) (v : World) (n : ℕ) → v ≡ world o es → Storms (of_nodes o) v n → n ≤ pending (of_nodes o) v
   few_storms es v n e (Calm w) = omega arith
   few_storms es v n e (Storm w m a op xs ys up waits S more) =
-      let less : pending o (run o v (xs ++ At a Event.Retry ∷ ys)) < pending o v = lowers es v e a op xs ys up waits S in
-      let rest : m ≤ pending o (run o v (xs ++ At a Event.Retry ∷ ys)) =
+      let less : pending (of_nodes o) (run o v (xs ++ At a Event.Retry ∷ ys)) < pending (of_nodes o) v = lowers es v e a op xs ys up waits S in
+      let rest : m ≤ pending (of_nodes o) (run o v (xs ++ At a Event.Retry ∷ ys)) =
       few_storms (es ++ (xs ++ At a Event.Retry ∷ ys)) (run o v (xs ++ At a Event.Retry ∷ ys)) m
       (ap (λ (x : World). run o x (xs ++ At a Event.Retry ∷ ys)) e
       ∙ sym (run-append o (opening_world o) es (xs ++ At a Event.Retry ∷ ys))) more in omega (arith, less, rest)
 
-pub storms_are_few : Always StormsAreFew
+pub storms_are_few : OfNodes StormsAreFew
 storms_are_few o es n S = few_storms o es (world o es) n refl S

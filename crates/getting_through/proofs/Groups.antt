@@ -6,7 +6,6 @@ use Rattle.registry_model.specs.Registry.{Registry, Replica, replica_of}
 use Rattle.registry_model.specs.History.{Hold, hold_at}
 use Rattle.protocol_model.specs.Node.{Current, is_writing}
 use Rattle.protocol_model.specs.World.{Opening, World, left}
-use Rattle.protocol_model.specs.Leftovers.{IsQuiet}
 use Rattle.no_dead_end.proofs.Indices.{both}
 use Rattle.no_dead_end.proofs.Invariants.{IsUp, standing_at}
 use Rattle.no_dead_end.proofs.States
@@ -14,8 +13,9 @@ use Rattle.no_dead_end.proofs.Families.{Whole}
 use Rattle.no_dead_end.proofs.Grounds.{replicas}
 use Rattle.no_dead_end.proofs.Quiet.{rid, at_ease, registrars}
 use Rattle.no_dead_end.proofs.Rest.{Grouped}
+use Rattle.no_dead_end.specs.Worlds.{of_nodes, IsQuiet}
 
-module _ (o : Opening) (w : World) (W : Whole o w) (Q : IsQuiet o w) where
+module _ (o : Opening) (w : World) (W : Whole o w) (Q : IsQuiet (of_nodes o) w) where
   abbrev r : Registry
   r = (standing_at o w).registry
 

@@ -20,7 +20,7 @@ use Rattle.protocol_model.specs.World.{Opening, World, left, WorldEvent, At, Del
 use Rattle.protocol_model.specs.Course.{entries_of, course}
 use Rattle.protocol_model.specs.Fit.{is_delivery}
 use Rattle.protocol_model.specs.Answers.{answer_to}
-use Rattle.protocol_model.specs.Leftovers.{Always, Runs, IsQuiet, IsSettled, world}
+use Rattle.protocol_model.specs.Quiet.{Runs}
 use Rattle.protocol_model.proofs.Courses.{run-append}
 use Rattle.no_dead_end.proofs.Indices.{greatest_in}
 use Rattle.no_dead_end.proofs.Invariants.{IsUp}
@@ -35,15 +35,17 @@ use Rattle.no_dead_end.proofs.AdmitsJoined.{AdmitsJoined, known as admissions_kn
 use Rattle.no_dead_end.proofs.CallsAnswered.{rest_is_free}
 use Rattle.no_dead_end.proofs.QuietWorlds.{quiet_worlds_rest}
 use Rattle.getting_through.specs.Pending.{pending}
-use Rattle.getting_through.specs.GettingThrough.{IsAlone, IsStorm, is_delivery_or_retry, reply_now, Answers, End, SomeoneGetsThrough, RetriesAloneEnd, NameCallsAloneAnswered}
+use Rattle.getting_through.specs.GettingThrough.{IsAlone, IsStorm, reply_now, Answers, End, SomeoneGetsThrough, RetriesAloneEnd, NameCallsAloneAnswered}
 use Rattle.getting_through.proofs.Groups.{below, member_runs}
 use Rattle.getting_through.proofs.Storm.{boss, members, DecidedIn, Decided, Still, IsAt, Before, Asking, Active, Asked, simple_sends, still_after}
 use Rattle.getting_through.proofs.StormRounds.{marks_begin}
 use Rattle.getting_through.proofs.StormEvents.{is_stormy, Known, run_on, heated, decided_at_last, still_first}
 use Rattle.getting_through.proofs.Entered.{history_more, entered_answered}
+use Rattle.no_dead_end.specs.Worlds.{of_nodes, OfNodes, IsQuiet, IsSettled, is_delivery_or_retry}
+use Rattle.no_dead_end.specs.Clauses.{world}
 
 -- What was decided behind these events ends that operation
-module _ (o : Opening) (es fs : List WorldEvent) (q : IsQuiet o (run o (world o es) fs))
+module _ (o : Opening) (es fs : List WorldEvent) (q : IsQuiet (of_nodes o) (run o (world o es) fs))
     (stay : left (run o (world o es) fs) ≡ left (world o es))
     (ops : ℕ → Option Op) (D : Decided o (world o es) ops (run o (world o es) fs)) where
   abbrev w : World
@@ -57,8 +59,8 @@ module _ (o : Opening) (es fs : List WorldEvent) (q : IsQuiet o (run o (world o 
       (append-cancel w.history D.more (entries_of (course o w fs)) (sym D.history ∙ history_more o es fs)) D.decided
 
   answered : (k : ℕ) (call : NameCall) → Contains (entries_of (course o w fs)) (Entry.Name D.node k call (reply_now w D.node call))
-      → Answers o es w D.node k call fs
-  answered k call c = entered_answered o (es ++ fs) (subst (IsQuiet o) (sym same) q) D.node runs
+      → Answers (of_nodes o) es w D.node k call fs
+  answered k call c = entered_answered o (es ++ fs) (subst (IsQuiet (of_nodes o)) (sym same) q) D.node runs
       (Entry.Name D.node k call (reply_now w D.node call)) (answer_to D.node k (reply_now w D.node call)) there here
     where
       runs : IsUp o (world o (es ++ fs)) D.node
@@ -75,10 +77,10 @@ module _ (o : Opening) (es fs : List WorldEvent) (q : IsQuiet o (run o (world o 
           (answer_to D.node k (reply_now w D.node call))) (sym (eq-eqb D.node D.node refl))
           (Contains-front (answer_to D.node k (reply_now w D.node call)) [])
 
-  pub ended : End o es w D.node D.op fs
+  pub ended : End (of_nodes o) es w D.node D.op fs
   ended = go D.op entered
     where
-      go : (x : Op) → DecidedIn o w ops D.node x (entries_of (course o w fs)) → End o es w D.node x fs
+      go : (x : Op) → DecidedIn o w ops D.node x (entries_of (course o w fs)) → End (of_nodes o) es w D.node x fs
       go (Op.Name k call) c = answered k call c
       go (Op.Strike p) c = c
       go (Op.Admission j pairs) (inl t) = inl ((whole o es).base.all.proper.told_left D.node j D.runs.1 t)
@@ -120,7 +122,7 @@ all_delivered may (Deliver f t ∷ fs) d = all_delivered may fs d
 all_delivered may (At c e ∷ fs) d = cc d
 
 -- a's boss runs
-boss_runs : (o : Opening) (es : List WorldEvent) (Q : IsQuiet o (world o es)) (ops : ℕ → Option Op) (a : ℕ) → IsUp o (world o es) a
+boss_runs : (o : Opening) (es : List WorldEvent) (Q : IsQuiet (of_nodes o) (world o es)) (ops : ℕ → Option Op) (a : ℕ) → IsUp o (world o es) a
     → IsUp o (world o es) (boss o (world o es) ops a)
 boss_runs o es Q ops a up = member_runs o (world o es) (whole o es) Q a up (boss o (world o es) ops a)
     (greatest_in o.bound (members o (world o es) ops a) a
@@ -131,13 +133,13 @@ module _ (o : Opening) (es : List WorldEvent) (ops : ℕ → Option Op) (may : N
     (retries : (c : ℕ) (x : Op) → may c ≡ true → ((world o es).node c).current ≡ Current.Waiting x → ops c ≡ Some x)
     (a : ℕ) (op : Op) (allowed : may a ≡ true) (waits : ((world o es).node a).current ≡ Current.Waiting op)
     (up : IsUp o (world o es) a)
-    (xs ys : List WorldEvent) (S : IsStorm o (world o es) a xs ys)
+    (xs ys : List WorldEvent) (S : IsStorm (of_nodes o) (world o es) a xs ys)
     (before : list_all (is_stormy may) xs ≡ true) (later : list_all (is_stormy may) ys ≡ true) where
   abbrev b : ℕ
   b = boss o (world o es) ops a
 
   abbrev limit : ℕ
-  limit = pending o (world o es)
+  limit = pending (of_nodes o) (world o es)
 
   hot : Known o (world o es) (whole o es) S.before ops may retries b (boss_runs o es S.before ops a up) limit true
       (run o (world o es) (xs ++ At a Event.Retry ∷ ys))
@@ -159,33 +161,33 @@ module _ (o : Opening) (es : List WorldEvent) (ops : ℕ → Option Op) (may : N
       }))
       S.accepted))
 
-  someone : (c : ℕ) × (x : Op) × Runs o (world o es) c × (ops c ≡ Some x) × End o es (world o es) c x (xs ++ At a Event.Retry ∷ ys)
-      × (pending o (run o (world o es) (xs ++ At a Event.Retry ∷ ys)) < pending o (world o es))
+  someone : (c : ℕ) × (x : Op) × Runs o (world o es) c × (ops c ≡ Some x) × End (of_nodes o) es (world o es) c x (xs ++ At a Event.Retry ∷ ys)
+      × (pending (of_nodes o) (run o (world o es) (xs ++ At a Event.Retry ∷ ys)) < pending (of_nodes o) (world o es))
   someone = (D.0.node, D.0.op, D.0.runs, D.0.may, ended o es (xs ++ At a Event.Retry ∷ ys) S.behind hot.stay ops D.0, D.1)
     where
       D : Decided o (world o es) ops (run o (world o es) (xs ++ At a Event.Retry ∷ ys))
-          × (pending o (run o (world o es) (xs ++ At a Event.Retry ∷ ys)) < limit)
+          × (pending (of_nodes o) (run o (world o es) (xs ++ At a Event.Retry ∷ ys)) < limit)
       D = decided_at_last o (world o es) (whole o es) S.before ops may retries b (boss_runs o es S.before ops a up) limit
           (run o (world o es) (xs ++ At a Event.Retry ∷ ys))
           (subst (Whole o) (run-append o (opening_world o) es (xs ++ At a Event.Retry ∷ ys))
           (whole o (es ++ (xs ++ At a Event.Retry ∷ ys))))
           S.behind hot
 
-pub someone_gets_through : Always SomeoneGetsThrough
+pub someone_gets_through : OfNodes SomeoneGetsThrough
 someone_gets_through o es a op xs ys up waits S = (E.0, E.1, E.2, is_waiting_op ((world o es).node E.0).current E.1 E.3, E.4, E.5)
   where
     E : (c : ℕ) × (x : Op) × Runs o (world o es) c × (waiting_op ((world o es).node c).current ≡ Some x)
-        × End o es (world o es) c x (xs ++ At a Event.Retry ∷ ys)
-        × (pending o (run o (world o es) (xs ++ At a Event.Retry ∷ ys)) < pending o (world o es))
+        × End (of_nodes o) es (world o es) c x (xs ++ At a Event.Retry ∷ ys)
+        × (pending (of_nodes o) (run o (world o es) (xs ++ At a Event.Retry ∷ ys)) < pending (of_nodes o) (world o es))
     E = someone o es (λ c. waiting_op ((world o es).node c).current) (λ c. true) (λ c x h e. ap waiting_op e) a op refl waits up xs
         ys S
         (all_stormy (λ c. true) (λ c. refl) xs S.first) (all_stormy (λ c. true) (λ c. refl) ys S.later)
 
-pub retries_alone_end : Always RetriesAloneEnd
+pub retries_alone_end : OfNodes RetriesAloneEnd
 retries_alone_end o es a op ds up waits A =
     let E : (c : ℕ) × (x : Op) × Runs o (world o es) c × (only a op c ≡ Some x)
-    × End o es (world o es) c x (At a Event.Retry ∷ ds)
-    × (pending o (run o (world o es) (At a Event.Retry ∷ ds)) < pending o (world o es)) =
+    × End (of_nodes o) es (world o es) c x (At a Event.Retry ∷ ds)
+    × (pending (of_nodes o) (run o (world o es) (At a Event.Retry ∷ ds)) < pending (of_nodes o) (world o es)) =
     someone o es (only a op) (λ c. c == a) only_retried a op (eq-eqb a a refl) waits up [] ds (record {
       before = A.before;
       first = refl;
@@ -194,8 +196,8 @@ retries_alone_end o es a op ds up waits A =
       behind = A.behind;
     }) refl (all_delivered (λ c. c == a) ds A.delivered) in
     let one : (E.0 ≡ a) × (op ≡ E.1) = only_one a op E.0 E.1 E.3 in
-    subst (λ (x : Op). End o es (world o es) a x (At a Event.Retry ∷ ds)) (sym one.1)
-    (subst (λ (c : ℕ). End o es (world o es) c E.1 (At a Event.Retry ∷ ds)) one.0 E.4)
+    subst (λ (x : Op). End (of_nodes o) es (world o es) a x (At a Event.Retry ∷ ds)) (sym one.1)
+    (subst (λ (c : ℕ). End (of_nodes o) es (world o es) c E.1 (At a Event.Retry ∷ ds)) one.0 E.4)
   where
     only_retried : (c : ℕ) (x : Op) → (c == a) ≡ true → ((world o es).node c).current ≡ Current.Waiting x → only a op c ≡ Some x
     only_retried c x h e = let same : c ≡ a = eqb-true c a h in
@@ -207,8 +209,8 @@ retries_alone_end o es a op ds up waits A =
     delivered (At c e ∷ fs) d = cc d
 
 -- A name call of a free registrar
-module _ (o : Opening) (es : List WorldEvent) (a : ℕ) (call : NameCall) (ds : List WorldEvent) (S : IsSettled o (world o es))
-    (A : IsAlone o (world o es) (At a (Event.Calling (Call.OnName call))) ds) where
+module _ (o : Opening) (es : List WorldEvent) (a : ℕ) (call : NameCall) (ds : List WorldEvent) (S : IsSettled (of_nodes o) (world o es))
+    (A : IsAlone (of_nodes o) (world o es) (At a (Event.Calling (Call.OnName call))) ds) where
   abbrev v : World
   v = world o es
 
@@ -256,7 +258,7 @@ module _ (o : Opening) (es : List WorldEvent) (a : ℕ) (call : NameCall) (ds : 
   active = Asked a up (λ e. cc (sym (ap (found request_in) link_is) ∙ e))
 
   abbrev at_call : ℕ
-  at_call = pending o (accepted o v calls)
+  at_call = pending (of_nodes o) (accepted o v calls)
 
   known : Known o v (whole o es) A.before (only a op) (λ c. false) none_retried host (boss_runs o es A.before (only a op) a up)
       at_call true (happens o v calls)
@@ -296,9 +298,9 @@ module _ (o : Opening) (es : List WorldEvent) (a : ℕ) (call : NameCall) (ds : 
         | inr ne ↦ Before (rw (ne_eqb c a ne) refl)
       ]
 
-  pub through : Answers o es v a ((v.node a).last_call + 1) call (calls ∷ ds)
-  through = subst (λ (x : Op). End o es v a x (calls ∷ ds)) (sym one.1)
-      (subst (λ (c : ℕ). End o es v c D.op (calls ∷ ds)) one.0 (ended o es (calls ∷ ds) A.behind last.stay (only a op) D))
+  pub through : Answers (of_nodes o) es v a ((v.node a).last_call + 1) call (calls ∷ ds)
+  through = subst (λ (x : Op). End (of_nodes o) es v a x (calls ∷ ds)) (sym one.1)
+      (subst (λ (c : ℕ). End (of_nodes o) es v c D.op (calls ∷ ds)) one.0 (ended o es (calls ∷ ds) A.behind last.stay (only a op) D))
     where
       last : Known o v (whole o es) A.before (only a op) (λ c. false) none_retried host (boss_runs o es A.before (only a op) a up)
           at_call true
@@ -316,5 +318,5 @@ module _ (o : Opening) (es : List WorldEvent) (a : ℕ) (call : NameCall) (ds : 
       one : (D.node ≡ a) × (op ≡ D.op)
       one = only_one a op D.node D.op D.may
 
-pub name_calls_alone_are_answered : Always NameCallsAloneAnswered
+pub name_calls_alone_are_answered : OfNodes NameCallsAloneAnswered
 name_calls_alone_are_answered o es a call ds S A = through o es a call ds S A

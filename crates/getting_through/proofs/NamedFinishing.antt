@@ -14,7 +14,6 @@ use Rattle.no_dead_end.specs.NodeNames.{NamedOpening, opening_of}
 use Rattle.no_dead_end.specs.NamedWorld.{NamedWorld, NamedEvent, running_nodes, happens_named, run_named, opening_named, after_events}
 use Rattle.no_dead_end.specs.NamedScript.{next_named, named_deliveries_left}
 use Rattle.no_dead_end.specs.Restarts.{IsUp}
-use Rattle.no_dead_end.specs.NamedLeftovers.{NamesAreQuiet, NamesAreSettled}
 use Rattle.no_dead_end.specs.Lifted.{events_played}
 use Rattle.no_dead_end.proofs.Always.{always}
 use Rattle.no_dead_end.proofs.Lists.{find_none, find_least}
@@ -22,15 +21,19 @@ use Rattle.no_dead_end.proofs.Running.{runs_listed, listed_runs, running_rise}
 use Rattle.no_dead_end.specs.Settling.{IsFirstByName, SettlesByName}
 use Rattle.no_dead_end.proofs.Settling.{settling_delivers_the_first}
 use Rattle.no_dead_end.specs.Answering.{NameCallsAreAnswered}
-use Rattle.no_dead_end.specs.NamedNoDeadEnd.{AlwaysNamed, named_work, NamedQuietWorldsRest}
+use Rattle.no_dead_end.specs.NamedNoDeadEnd.{AlwaysNamed, named_work}
 use Rattle.no_dead_end.proofs.CallsAnswered.{rest_is_free}
 use Rattle.no_dead_end.proofs.NamedDeliveries.{named_settles}
 use Rattle.no_dead_end.proofs.NamedQuiet.{quiet_names_rest, settled_names_answer}
-use Rattle.getting_through.specs.NamedGettingFree.{is_named_delivery_or_retry, named_pending, NamesLeadOn, NamedRegistrarsGetFree}
-use Rattle.getting_through.specs.NamedGettingThrough.{IsNamedStorm}
 use Rattle.getting_through.specs.NamedFinishing.{retried, settling, settled_names, first_refused, finishing, is_named_retry, named_retries, NamedRetriesLower, FinishingEnds}
 use Rattle.getting_through.proofs.Freeing.{may_retry}
 use Rattle.getting_through.proofs.NamedStorms.{stays, fewer}
+use Rattle.no_dead_end.specs.Worlds.{IsQuiet, IsSettled}
+use Rattle.no_dead_end.specs.WorldsOfNames.{of_names, OfNames, is_named_delivery_or_retry}
+use Rattle.no_dead_end.specs.QuietWorlds.{QuietWorldsRest}
+use Rattle.getting_through.specs.Pending.{pending}
+use Rattle.getting_through.specs.GettingThrough.{IsStorm}
+use Rattle.getting_through.specs.GettingFree.{LeadsOn, RegistrarsGetFree}
 
 -- retries of two lists
 retries_append : (xs ys : List NamedEvent) → named_retries (xs ++ ys) ≡ named_retries xs + named_retries ys
@@ -68,7 +71,7 @@ module _ (o : NamedOpening) where
     abbrev w : NamedWorld
     w = after_events o es
 
-    pub quiet_names : next_named o w ≡ None → NamesAreQuiet o es w
+    pub quiet_names : next_named o w ≡ None → IsQuiet (of_names o) w
     quiet_names e = L.quiet.0 (L.none.0 e)
       where
         L : SettlesByName o es w
@@ -90,11 +93,11 @@ module _ (o : NamedOpening) where
         find_none (λ c. is_waiting (w.world.node c).current) (running_nodes o w) e c (runs_listed o w (always o es) c up) in
         let g : is_waiting (w.world.node c).current ≡ true = ap is_waiting h in cc (f, g)
 
-    pub is_finished : next_named o w ≡ None → first_refused o w ≡ None → NamesAreSettled o es w
+    pub is_finished : next_named o w ≡ None → first_refused o w ≡ None → IsSettled (of_names o) w
     is_finished q e = record { quiet = quiet_names q; retried = λ c op up h. none_refused e c op up h }
 
     -- A refused registrar is retried in a quiet world, and letters are delivered until none waits
-    module _ (n : ℕ) (op : Op) (most : ℕ) (h : NamesAreQuiet o es w) (up : IsUp o w n)
+    module _ (n : ℕ) (op : Op) (most : ℕ) (h : IsQuiet (of_names o) w) (up : IsUp o w n)
         (e : (w.world.node n).current ≡ Current.Waiting op) (l : named_work o (retried o w n) ≤ most) where
       abbrev retry : NamedEvent
       retry = NamedEvent.AtNode n Event.Retry
@@ -116,26 +119,26 @@ module _ (o : NamedOpening) where
           → next_named o (run_named o v (named_deliveries_left o most v)) ≡ None) at_retry
           (named_settles o most (es ++ retry ∷ [])) l
 
-      storm : IsNamedStorm o es w n [] ds
+      storm : IsStorm (of_names o) w n [] ds
       storm = record {
         before = h;
         first = refl;
         accepted = rw (up.started, allowed) refl;
         later = subst (λ (v : NamedWorld). list_all is_named_delivery_or_retry (named_deliveries_left o most v) ≡ true) at_retry
             (left_deliver most (es ++ retry ∷ [])).0;
-        behind = subst (λ (v : NamedWorld). NamesAreQuiet o (es ++ retry ∷ ds) v) at_last
+        behind = subst (λ (v : NamedWorld). IsQuiet (of_names o) v) at_last
             (quiet_after (es ++ retry ∷ ds) (ap (next_named o) at_last ∙ nothing_left));
       }
         where
-          quiet_after : (fs : List NamedEvent) → next_named o (after_events o fs) ≡ None → NamesAreQuiet o fs (after_events o fs)
+          quiet_after : (fs : List NamedEvent) → next_named o (after_events o fs) ≡ None → IsQuiet (of_names o) (after_events o fs)
           quiet_after fs q = let L : SettlesByName o fs (after_events o fs) = settling_delivers_the_first o fs in L.quiet.0 (L.none.0 q)
 
-      pub lower : named_pending o (run_named o (retried o w n) ds) < named_pending o w
+      pub lower : pending (of_names o) (run_named o (retried o w n) ds) < pending (of_names o) w
       lower = fewer o es n [] ds storm op up e
 
     -- the first refused node, where no letter waits
     pub retry_lowers : (n most : ℕ) → next_named o w ≡ None → first_refused o w ≡ Some n → named_work o (retried o w n) ≤ most
-        → named_pending o (run_named o (retried o w n) (named_deliveries_left o most (retried o w n))) < named_pending o w
+        → pending (of_names o) (run_named o (retried o w n) (named_deliveries_left o most (retried o w n))) < pending (of_names o) w
     retry_lowers n most q e l =
         let f : IsUp o w n × (op : Op) × ((w.world.node n).current ≡ Current.Waiting op) = refused_found n e in
         lower n f.1 most (quiet_names q) f.0 f.2 l
@@ -145,7 +148,7 @@ module _ (o : NamedOpening) where
     kinds : list_all is_named_delivery_or_retry fs ≡ true
     quiet : next_named o (run_named o v fs) ≡ None
     free : first_refused o (run_named o v fs) ≡ None
-    few : named_retries fs ≤ named_pending o (settled_names o v)
+    few : named_retries fs ≤ pending (of_names o) (settled_names o v)
 
   module _ (es : List NamedEvent) where
     abbrev v : NamedWorld
@@ -175,9 +178,9 @@ module _ (o : NamedOpening) where
         ∙ ap (λ (z : NamedWorld). retried o z n) at_settled
 
     lowered : (n : ℕ) → first_refused o (settled_names o v) ≡ Some n
-        → named_pending o (settled_names o (next n)) < named_pending o (settled_names o v)
+        → pending (of_names o) (settled_names o (next n)) < pending (of_names o) (settled_names o v)
     lowered n e = subst (λ (z : NamedWorld). next_named o z ≡ None → first_refused o z ≡ Some n
-        → named_pending o (settled_names o (retried o z n)) < named_pending o z) at_settled
+        → pending (of_names o) (settled_names o (retried o z n)) < pending (of_names o) z) at_settled
         (λ q f. retry_lowers es1 n (named_work o (retried o (after_events o es1) n)) q f (omega arith)) settled_quiet e
 
     none_left : first_refused o (settled_names o v) ≡ None → Ends v (settling o v)
@@ -201,8 +204,8 @@ module _ (o : NamedOpening) where
           retries_append (settling o v) (NamedEvent.AtNode n Event.Retry ∷ fs) in
           let one : named_retries (NamedEvent.AtNode n Event.Retry ∷ fs) ≡ suc (named_retries fs) = refl in
           let none : named_retries (settling o v) ≡ 0 = delivered.1 in
-          let rest : named_retries fs ≤ named_pending o (settled_names o (next n)) = R.few in
-          let less : named_pending o (settled_names o (next n)) < named_pending o (settled_names o v) = lowered n e in
+          let rest : named_retries fs ≤ pending (of_names o) (settled_names o (next n)) = R.few in
+          let less : pending (of_names o) (settled_names o (next n)) < pending (of_names o) (settled_names o v) = lowered n e in
           omega (arith, all, one, none, rest, less);
     }
       where
@@ -210,19 +213,19 @@ module _ (o : NamedOpening) where
         same = fold-append (happens_named o) v (settling o v) (NamedEvent.AtNode n Event.Retry ∷ fs)
 
   -- so in the end all are free
-  ends : (most : ℕ) (es : List NamedEvent) → named_pending o (settled_names o (after_events o es)) ≤ most
+  ends : (most : ℕ) (es : List NamedEvent) → pending (of_names o) (settled_names o (after_events o es)) ≤ most
       → Ends (after_events o es) (finishing o most (after_events o es))
   ends zero es l = go (first_refused o (settled_names o (v es))) refl
     where
       go : (x : Option ℕ) → first_refused o (settled_names o (v es)) ≡ x → Ends (v es) (settling o (v es))
       go None e = none_left es e
       go (Some n) e =
-          let less : named_pending o (settled_names o (next es n)) < named_pending o (settled_names o (v es)) = lowered es n e in
+          let less : pending (of_names o) (settled_names o (next es n)) < pending (of_names o) (settled_names o (v es)) = lowered es n e in
           absurd (omega (arith, less, l))
   ends (suc most) es l = go (first_refused o (settled_names o (v es))) refl (λ n j. ends most (es2 es n) j)
     where
       go : (x : Option ℕ) → first_refused o (settled_names o (v es)) ≡ x
-          → ((n : ℕ) → named_pending o (settled_names o (after_events o (es2 es n))) ≤ most
+          → ((n : ℕ) → pending (of_names o) (settled_names o (after_events o (es2 es n))) ≤ most
           → Ends (after_events o (es2 es n)) (finishing o most (after_events o (es2 es n))))
           → Ends (v es) (settling o (v es) ++ elim x [
             | None ↦ []
@@ -230,20 +233,20 @@ module _ (o : NamedOpening) where
           ])
       go None e more = subst (Ends (v es)) (sym (append-nil (settling o (v es)))) (none_left es e)
       go (Some n) e more =
-          let less : named_pending o (settled_names o (next es n)) < named_pending o (settled_names o (v es)) = lowered es n e in
+          let less : pending (of_names o) (settled_names o (next es n)) < pending (of_names o) (settled_names o (v es)) = lowered es n e in
           one_more es n e (finishing o most (next es n))
-          (subst (λ (z : NamedWorld). named_pending o (settled_names o z) ≤ most → Ends z (finishing o most z)) (at_next es n)
+          (subst (λ (z : NamedWorld). pending (of_names o) (settled_names o z) ≤ most → Ends z (finishing o most z)) (at_next es n)
           (more n) (omega (arith, less, l)))
 
-  module _ (es : List NamedEvent) (most : ℕ) (l : named_pending o (after_events o es) ≤ most) where
+  module _ (es : List NamedEvent) (most : ℕ) (l : pending (of_names o) (after_events o es) ≤ most) where
     abbrev fs : List NamedEvent
     fs = finishing o most (after_events o es)
 
-    fewer_settled : named_pending o (settled_names o (after_events o es)) ≤ named_pending o (after_events o es)
+    fewer_settled : pending (of_names o) (settled_names o (after_events o es)) ≤ pending (of_names o) (after_events o es)
     fewer_settled = stays o es (settling o (after_events o es)) (delivered es).0
 
     E : Ends (after_events o es) fs
-    E = ends most es (let h : named_pending o (settled_names o (after_events o es)) ≤ named_pending o (after_events o es) =
+    E = ends most es (let h : pending (of_names o) (settled_names o (after_events o es)) ≤ pending (of_names o) (after_events o es) =
         fewer_settled in omega (arith, h, l))
 
     abbrev end : NamedWorld
@@ -252,19 +255,19 @@ module _ (o : NamedOpening) where
     at_end : after_events o (es ++ fs) ≡ end
     at_end = fold-append (happens_named o) (opening_named o) es fs
 
-    settled : NamesAreSettled o (es ++ fs) (after_events o (es ++ fs))
+    settled : IsSettled (of_names o) (after_events o (es ++ fs))
     settled = is_finished (es ++ fs) (ap (next_named o) at_end ∙ E.quiet) (ap (first_refused o) at_end ∙ E.free)
 
-    settled_end : NamesAreSettled o (es ++ fs) end
-    settled_end = subst (NamesAreSettled o (es ++ fs)) at_end settled
+    settled_end : IsSettled (of_names o) end
+    settled_end = subst (IsSettled (of_names o)) at_end settled
 
     -- who runs is free then
     rests : (c : ℕ) → IsUp o end c → ((end.world.node c).current ≡ Current.Free) × ((end.world.node c).queue ≡ [])
     rests c up = rest_is_free (IsUp o end) end.world c settled_end.retried up
-        ((subst (λ (z : NamedWorld). NamedQuietWorldsRest o (es ++ fs) z) at_end (quiet_names_rest o (es ++ fs))
+        ((subst (λ (z : NamedWorld). QuietWorldsRest (of_names o) (es ++ fs) z) at_end (quiet_names_rest o (es ++ fs))
         settled_end.quiet).registrars c up)
 
-    leads : NamesLeadOn o es (after_events o es) fs
+    leads : LeadsOn (of_names o) es (after_events o es) fs
     leads = record {
       kinds = E.kinds;
       settled = settled_end;
@@ -283,15 +286,15 @@ finishing_ends o es most l = record {
   quiet = (E o es most l).quiet;
   free = (E o es most l).free;
   few =
-      let few : named_retries (finishing o most (after_events o es)) ≤ named_pending o (settled_names o (after_events o es)) =
+      let few : named_retries (finishing o most (after_events o es)) ≤ pending (of_names o) (settled_names o (after_events o es)) =
       (E o es most l).few in
-      let less : named_pending o (settled_names o (after_events o es)) ≤ named_pending o (after_events o es) =
+      let less : pending (of_names o) (settled_names o (after_events o es)) ≤ pending (of_names o) (after_events o es) =
       fewer_settled o es most l in
       omega (arith, few, less);
 }
 
-pub names_get_free : AlwaysNamed NamedRegistrarsGetFree
+pub names_get_free : OfNames RegistrarsGetFree
 names_get_free o es = (
-  finishing o (named_pending o (after_events o es)) (after_events o es),
-  leads o es (named_pending o (after_events o es)) (omega arith),
+  finishing o (pending (of_names o) (after_events o es)) (after_events o es),
+  leads o es (pending (of_names o) (after_events o es)) (omega arith),
 )

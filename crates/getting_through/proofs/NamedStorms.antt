@@ -9,13 +9,11 @@ use Rattle.registry_model.specs.Process.{Nodes}
 use Rattle.protocol_model.specs.Node.{Node, Op, Current}
 use Rattle.protocol_model.specs.Event.{Event, NoSuchNode}
 use Rattle.protocol_model.specs.World.{Opening, in_world, World, left, WorldEvent, At, opening_world, refusal, run, all_answers}
-use Rattle.protocol_model.specs.Leftovers.{IsQuiet, world}
 use Rattle.protocol_model.proofs.Courses.{run-append}
 use Rattle.no_dead_end.proofs.Indices.{both, not_true}
 use Rattle.no_dead_end.specs.NodeNames.{NamedOpening, opening_of}
 use Rattle.no_dead_end.specs.NamedWorld.{NamedWorld, NamedEvent, NamedRefusal, Plain, present_node, has_started, sender_to, named_refusal, plain_refusal, plain, plain_accepted, plain_events, accepted_named, happens_named, run_named, opening_named, after_events}
 use Rattle.no_dead_end.specs.Restarts.{IsUp}
-use Rattle.no_dead_end.specs.NamedLeftovers.{NamesAreQuiet}
 use Rattle.no_dead_end.proofs.Alike.{Alike, AreWithin, same_refusal, within-append, run_alike}
 use Rattle.no_dead_end.proofs.Always.{always, happens_keeps}
 use Rattle.no_dead_end.proofs.LeftOfNames
@@ -23,17 +21,16 @@ use Rattle.no_dead_end.proofs.QuietNames
 use Rattle.no_dead_end.proofs.NamedRuns.{run-plain, named_runs_are_runs, plain_events-append}
 use Rattle.no_dead_end.proofs.Standing.{Sound, present_started, least_started, unrefused}
 use Rattle.no_dead_end.specs.Weights.{sum_below, when, of_link, of_node, of_place}
-use Rattle.no_dead_end.specs.Work.{running}
-use Rattle.no_dead_end.specs.NamedNoDeadEnd.{AlwaysNamed, up}
 use Rattle.no_dead_end.proofs.Sums.{sum-same, sum-le, sum-zero}
 use Rattle.no_dead_end.proofs.NamedDeliveries.{counts_up}
 use Rattle.getting_through.specs.Pending.{pending, pending_weights}
-use Rattle.getting_through.specs.GettingThrough.{IsStorm, is_delivery_or_retry}
-use Rattle.getting_through.specs.NamedGettingFree.{is_named_delivery_or_retry, named_pending}
-use Rattle.getting_through.specs.NamedGettingThrough.{IsNamedStorm}
-use Rattle.getting_through.specs.NamedFinishing.{NamedPendingStays}
+use Rattle.getting_through.specs.GettingThrough.{IsStorm}
 use Rattle.getting_through.proofs.PendingParts.{plain as plain_pending, node_is}
 use Rattle.getting_through.proofs.Freeing.{pending_never_rises, lowers}
+use Rattle.no_dead_end.specs.Worlds.{of_nodes, IsQuiet, running, is_delivery_or_retry}
+use Rattle.no_dead_end.specs.Clauses.{world}
+use Rattle.no_dead_end.specs.WorldsOfNames.{of_names, OfNames, is_named_delivery_or_retry, up}
+use Rattle.getting_through.specs.GettingFree.{PendingStays}
 
 module _ (o : NamedOpening) where
   abbrev pub O : Opening
@@ -142,7 +139,7 @@ module _ (o : NamedOpening) where
   up_counts w c u = rw (u.inside, u.started, u.stays) refl
 
   -- in a world that is alike at those that have started no less is pending
-  no_less : (x : NamedWorld) (y : World) → Alike (O o) (has_started o x) x.world y → named_pending o x ≤ pending (O o) y
+  no_less : (x : NamedWorld) (y : World) → Alike (O o) (has_started o x) x.world y → pending (of_names o) x ≤ pending (of_nodes (O o)) y
   no_less x y A = sum-le (O o).bound (λ c. when (up o x c) (of_place (O o).bound pending_weights (up o x) x.world c))
       (λ c. when (running (O o) y c) (of_place (O o).bound pending_weights (running (O o) y) y c)) (λ c l. go c (up o x c) refl)
     where
@@ -189,7 +186,7 @@ module _ (o : NamedOpening) (es : List NamedEvent) where
       ∙ ap (λ (v : World). run (O o) v F) (sym (named_runs_are_runs o es))
 
   -- nor is more pending there, since nodes that haven't started have nothing
-  no_more : pending (O o) u ≤ named_pending o w
+  no_more : pending (of_nodes (O o)) u ≤ pending (of_names o) w
   no_more = sum-le (O o).bound (λ c. when (running (O o) u c) (of_place (O o).bound pending_weights (running (O o) u) u c))
       (λ c. when (up o w c) (of_place (O o).bound pending_weights (up o w) w.world c))
       (λ c l. go c (running (O o) u c) refl (S c) refl)
@@ -247,7 +244,7 @@ module _ (o : NamedOpening) (es : List NamedEvent) where
         ∙ ap (λ (v : World). run (O o) v P) (run-append (O o) (opening_world (O o)) E F
         ∙ ap (λ (v : World). run (O o) v F) (sym (named_runs_are_runs o es))))
 
-    pub quiet_there : NamesAreQuiet o es x → IsQuiet (O o) y
+    pub quiet_there : IsQuiet (of_names o) x → IsQuiet (of_nodes (O o)) y
     quiet_there h f c i r = go (S c) refl
       where
         go : (b : Bool) → S c ≡ b → y.links.queue f c ≡ []
@@ -259,17 +256,17 @@ module _ (o : NamedOpening) (es : List NamedEvent) where
             } in B.queue f c e ∙ h f c i up
         go false e = B.late f c e
 
-    no_less_there : named_pending o x ≤ pending (O o) y
+    no_less_there : pending (of_names o) x ≤ pending (of_nodes (O o)) y
     no_less_there = no_less o x y (subst (λ (z : Nodes). Alike (O o) z x.world y) (sym fit.1) B)
 
     -- no more is pending than was
-    pub stays : named_pending o x ≤ named_pending o w
+    pub stays : pending (of_names o) x ≤ pending (of_names o) w
     stays =
-        let there : pending (O o) y ≤ pending (O o) u =
-        subst (λ (v : World). pending (O o) (run (O o) v P) ≤ pending (O o) v) told_world
+        let there : pending (of_nodes (O o)) y ≤ pending (of_nodes (O o)) u =
+        subst (λ (v : World). pending (of_nodes (O o)) (run (O o) v P) ≤ pending (of_nodes (O o)) v) told_world
         (pending_never_rises (O o) (E ++ F) P fit.0.1) in
-        let before : pending (O o) u ≤ named_pending o w = no_more in
-        let after : named_pending o x ≤ pending (O o) y = no_less_there in omega (arith, there, before, after)
+        let before : pending (of_nodes (O o)) u ≤ pending (of_names o) w = no_more in
+        let after : pending (of_names o) x ≤ pending (of_nodes (O o)) y = no_less_there in omega (arith, there, before, after)
 
     -- a sound world
     at_events : after_events o (es ++ fs) ≡ x
@@ -279,7 +276,7 @@ module _ (o : NamedOpening) (es : List NamedEvent) where
     sound = subst (Sound o) at_events (always o (es ++ fs))
 
   -- From a quiet world letters are delivered and nodes retried, n among them, until no letter waits
-  module _ (n : ℕ) (xs ys : List NamedEvent) (T : IsNamedStorm o es w n xs ys) where
+  module _ (n : ℕ) (xs ys : List NamedEvent) (T : IsStorm (of_names o) w n xs ys) where
     abbrev pub retry : NamedEvent
     retry = NamedEvent.AtNode n Event.Retry
 
@@ -316,28 +313,28 @@ module _ (o : NamedOpening) (es : List NamedEvent) where
         by true j q = (j, (unrefused o (x xs T.first) (sound xs T.first) (At n Event.Retry) q).1)
         by false j q = absurd (cc q)
 
-    pub storm : IsStorm (O o) u n X Y
+    pub storm : IsStorm (of_nodes (O o)) u n X Y
     storm = record {
       before = LeftOfNames.quiet o es T.before;
       first = (fit xs T.first).0.1;
       accepted = same_refusal (O o) S (x xs T.first).world (y xs T.first) (B xs T.first) (At n Event.Retry)
           (sym (ap (λ (z : Nodes). z n) (fit xs T.first).1) ∙ allowed.0) ∙ allowed.1;
       later = (all_fit o ys after (happens_keeps o (x xs T.first) retry (sound xs T.first)) T.later).0.1;
-      behind = subst (IsQuiet (O o)) there (quiet_there all kinds T.behind);
+      behind = subst (IsQuiet (of_nodes (O o))) there (quiet_there all kinds T.behind);
     }
 
     -- where its registrar was refused less is pending behind them
     pub fewer : (op : Op) → IsUp o w n → (w.world.node n).current ≡ Current.Waiting op
-        → named_pending o (run_named o w all) < named_pending o w
+        → pending (of_names o) (run_named o w all) < pending (of_names o) w
     fewer op up e =
-        let less : pending (O o) (run (O o) u (X ++ At n Event.Retry ∷ Y)) < pending (O o) u =
+        let less : pending (of_nodes (O o)) (run (O o) u (X ++ At n Event.Retry ∷ Y)) < pending (of_nodes (O o)) u =
         lowers (O o) (E ++ F) u (sym told_world) n op X Y (up.inside, LeftOfNames.left_same o es n ∙ up.stays)
         (ap (λ (v : Node). v.current) (alike.node n up.started) ∙ e) storm in
-        let same : pending (O o) (y all kinds) ≡ pending (O o) (run (O o) u (X ++ At n Event.Retry ∷ Y)) =
-        ap (pending (O o)) there in
-        let before : pending (O o) u ≤ named_pending o w = no_more in
-        let behind : named_pending o (run_named o w all) ≤ pending (O o) (y all kinds) = no_less_there all kinds in
+        let same : pending (of_nodes (O o)) (y all kinds) ≡ pending (of_nodes (O o)) (run (O o) u (X ++ At n Event.Retry ∷ Y)) =
+        ap (pending (of_nodes (O o))) there in
+        let before : pending (of_nodes (O o)) u ≤ pending (of_names o) w = no_more in
+        let behind : pending (of_names o) (run_named o w all) ≤ pending (of_nodes (O o)) (y all kinds) = no_less_there all kinds in
         omega (arith, less, same, before, behind)
 
-pub named_pending_never_rises : AlwaysNamed NamedPendingStays
+pub named_pending_never_rises : OfNames PendingStays
 named_pending_never_rises o es fs k = stays o es fs k

@@ -14,7 +14,7 @@ use Rattle.protocol_model.specs.Turn.{Turn}
 use Rattle.protocol_model.specs.World.{Opening, World, WorldEvent, At, place, other, opening_world, refusal, accepted, happens, run, all_answers}
 use Rattle.protocol_model.specs.Course.{played, entries_of, answers_of, course}
 use Rattle.protocol_model.specs.Answers.{answer_to}
-use Rattle.protocol_model.specs.Leftovers.{Runs, world}
+use Rattle.protocol_model.specs.Quiet.{Runs}
 use Rattle.protocol_model.proofs.Courses.{answers-append, course_answers}
 use Rattle.no_dead_end.proofs.Courses.{entries_of-append}
 use Rattle.no_dead_end.specs.NodeNames.{NamedOpening}
@@ -27,14 +27,15 @@ use Rattle.no_dead_end.proofs.CaughtUp.{unanswered}
 use Rattle.no_dead_end.proofs.LeftOfNames
 use Rattle.no_dead_end.proofs.NamedRuns.{named_runs_are_runs, plain_events-append}
 use Rattle.no_dead_end.proofs.Standing.{least_started}
-use Rattle.no_dead_end.specs.NamedNoDeadEnd.{AlwaysNamed}
 use Rattle.getting_through.specs.Pending.{pending}
-use Rattle.getting_through.specs.GettingThrough.{reply_now, End, SomeoneGetsThrough}
-use Rattle.getting_through.specs.NamedGettingFree.{is_named_delivery_or_retry, named_pending}
-use Rattle.getting_through.specs.NamedGettingThrough.{IsNamedStorm, NamedStorms, Calm, Storm, NamedEnd, NamedSomeoneGetsThrough, NamedStormsAreFew}
+use Rattle.getting_through.specs.GettingThrough.{reply_now, End, SomeoneGetsThrough, IsStorm}
 use Rattle.getting_through.proofs.Laws.{someone_gets_through}
 use Rattle.getting_through.proofs.NamedStorms.{O, E, F, w, u, S, s, alike, told_world, P, fit, all, X, Y, kinds, plain_is, storm, fewer}
 use Rattle.getting_through.proofs.NamedStorms
+use Rattle.no_dead_end.specs.Worlds.{of_nodes}
+use Rattle.no_dead_end.specs.Clauses.{world}
+use Rattle.no_dead_end.specs.WorldsOfNames.{of_names, OfNames, is_named_delivery_or_retry}
+use Rattle.getting_through.specs.GettingFree.{Storms, Calm, Storm, StormsAreFew}
 
 -- Worlds that are alike at the nodes of a set enter the same, too
 module _ (o : Opening) (S : Nodes) (least : S 0 ≡ true) where
@@ -100,8 +101,8 @@ module _ (o : NamedOpening) (es fs : List NamedEvent) (k : list_all is_named_del
       (u o es) (s o es).apart (alike o es)
 
   -- so an operation that ends there ends here
-  pub ended : (c : ℕ) (x : Op) → IsUp o (w o es) c → End (O o) (E o es ++ F o es) (u o es) c x (P o es fs k)
-      → NamedEnd o es (w o es) c x fs
+  pub ended : (c : ℕ) (x : Op) → IsUp o (w o es) c → End (of_nodes (O o)) (E o es ++ F o es) (u o es) c x (P o es fs k)
+      → End (of_names o) es (w o es) c x fs
   ended c (Op.Name n call) up i = subst (λ (z : Node). Contains (answers_of (events_played o (es ++ fs)))
       (answer_to c n (reply_to z.replica.members z.replica.table call))) ((alike o es).node c up.started)
       (subst (λ (l : List Answer). Contains l (answer_to c n (reply_now (u o es) c call))) same_answers i)
@@ -111,15 +112,15 @@ module _ (o : NamedOpening) (es fs : List NamedEvent) (k : list_all is_named_del
   ended c (Op.Join n m) up i = absurd i
 
 module _ (o : NamedOpening) (es : List NamedEvent) (n : ℕ) (op : Op) (xs ys : List NamedEvent) (up : IsUp o (w o es) n)
-    (waits : ((w o es).world.node n).current ≡ Current.Waiting op) (T : IsNamedStorm o es (w o es) n xs ys) where
+    (waits : ((w o es).world.node n).current ≡ Current.Waiting op) (T : IsStorm (of_names o) (w o es) n xs ys) where
   abbrev fs : List WorldEvent
   fs = X o es n xs ys T ++ At n Event.Retry ∷ Y o es n xs ys T
 
   -- someone gets through there
   there : (c : ℕ) × (x : Op) × Runs (O o) (u o es) c × (((u o es).node c).current ≡ Current.Waiting x)
-      × End (O o) (E o es ++ F o es) (u o es) c x fs
-      × (pending (O o) (run (O o) (u o es) fs) < pending (O o) (u o es))
-  there = subst (SomeoneGetsThrough (O o) (E o es ++ F o es)) (told_world o es) (someone_gets_through (O o) (E o es ++ F o es)) n op
+      × End (of_nodes (O o)) (E o es ++ F o es) (u o es) c x fs
+      × (pending (of_nodes (O o)) (run (O o) (u o es) fs) < pending (of_nodes (O o)) (u o es))
+  there = subst (SomeoneGetsThrough (of_nodes (O o)) (E o es ++ F o es)) (told_world o es) (someone_gets_through (O o) (E o es ++ F o es)) n op
       (X o es n xs ys T) (Y o es n xs ys T) (up.inside, LeftOfNames.left_same o es n ∙ up.stays)
       (ap (λ (z : Node). z.current) ((alike o es).node n up.started) ∙ waits) (storm o es n xs ys T)
 
@@ -135,42 +136,42 @@ module _ (o : NamedOpening) (es : List NamedEvent) (n : ℕ) (op : Op) (xs ys : 
       )
 
   pub through : (c : ℕ) × (x : Op) × IsUp o (w o es) c × (((w o es).world.node c).current ≡ Current.Waiting x)
-      × NamedEnd o es (w o es) c x (all o es n xs ys T)
-      × (named_pending o (run_named o (w o es) (all o es n xs ys T)) < named_pending o (w o es))
+      × End (of_names o) es (w o es) c x (all o es n xs ys T)
+      × (pending (of_names o) (run_named o (w o es) (all o es n xs ys T)) < pending (of_names o) (w o es))
   through = (
     there.0,
     there.1,
     is_up,
     sym (ap (λ (z : Node). z.current) ((alike o es).node there.0 is_up.started)) ∙ there.3,
     ended o es (all o es n xs ys T) (kinds o es n xs ys T) there.0 there.1 is_up
-        (subst (λ (l : List WorldEvent). End (O o) (E o es ++ F o es) (u o es) there.0 there.1 l) (sym (plain_is o es n xs ys T))
+        (subst (λ (l : List WorldEvent). End (of_nodes (O o)) (E o es ++ F o es) (u o es) there.0 there.1 l) (sym (plain_is o es n xs ys T))
         there.4),
     fewer o es n xs ys T op up waits,
   )
 
-pub named_someone_gets_through : AlwaysNamed NamedSomeoneGetsThrough
+pub named_someone_gets_through : OfNames SomeoneGetsThrough
 named_someone_gets_through o es n op xs ys up waits T = through o es n op xs ys up waits T
 
 -- so such storms are few
 module _ (o : NamedOpening) where
   abbrev Lowers : List NamedEvent → NamedWorld → Type 0
   Lowers es v = (n : ℕ) (op : Op) (xs ys : List NamedEvent) → IsUp o v n → (v.world.node n).current ≡ Current.Waiting op
-      → IsNamedStorm o es v n xs ys
-      → named_pending o (run_named o v (xs ++ NamedEvent.AtNode n Event.Retry ∷ ys)) < named_pending o v
+      → IsStorm (of_names o) v n xs ys
+      → pending (of_names o) (run_named o v (xs ++ NamedEvent.AtNode n Event.Retry ∷ ys)) < pending (of_names o) v
 
   lowers_at : (es : List NamedEvent) (v : NamedWorld) → v ≡ after_events o es → Lowers es v
   lowers_at es v e = subst (Lowers es) (sym e) (λ n op xs ys up waits T. fewer o es n xs ys T op up waits)
 
-  few_storms : (es : List NamedEvent) (v : NamedWorld) (k : ℕ) → v ≡ after_events o es → NamedStorms o es v k → k ≤ named_pending o v
-  few_storms es v k e (Calm x y) = omega arith
-  few_storms es v k e (Storm x y j n op xs ys up waits T more) =
-      let less : named_pending o (run_named o v (xs ++ NamedEvent.AtNode n Event.Retry ∷ ys)) < named_pending o v =
+  few_storms : (es : List NamedEvent) (v : NamedWorld) (k : ℕ) → v ≡ after_events o es → Storms (of_names o) v k → k ≤ pending (of_names o) v
+  few_storms es v k e (Calm x) = omega arith
+  few_storms es v k e (Storm x j n op xs ys up waits T more) =
+      let less : pending (of_names o) (run_named o v (xs ++ NamedEvent.AtNode n Event.Retry ∷ ys)) < pending (of_names o) v =
       lowers_at es v e n op xs ys up waits T in
-      let rest : j ≤ named_pending o (run_named o v (xs ++ NamedEvent.AtNode n Event.Retry ∷ ys)) =
+      let rest : j ≤ pending (of_names o) (run_named o v (xs ++ NamedEvent.AtNode n Event.Retry ∷ ys)) =
       few_storms (es ++ (xs ++ NamedEvent.AtNode n Event.Retry ∷ ys)) (run_named o v (xs ++ NamedEvent.AtNode n Event.Retry ∷ ys)) j
       (ap (λ (z : NamedWorld). run_named o z (xs ++ NamedEvent.AtNode n Event.Retry ∷ ys)) e
       ∙ sym (fold-append (happens_named o) (opening_named o) es (xs ++ NamedEvent.AtNode n Event.Retry ∷ ys))) more in
       omega (arith, less, rest)
 
-pub named_storms_are_few : AlwaysNamed NamedStormsAreFew
+pub named_storms_are_few : OfNames StormsAreFew
 named_storms_are_few o es k S = few_storms o es (after_events o es) k refl S

@@ -16,7 +16,6 @@ use Rattle.protocol_model.specs.Client.{one_less, close_call, ask_lock, try_lock
 use Rattle.protocol_model.specs.Event.{Event, Refusal}
 use Rattle.protocol_model.specs.World.{Opening, in_world, World, left, WorldEvent, At, Deliver, refusal, accepted, turn_of, happens, run}
 use Rattle.protocol_model.specs.Course.{global_given}
-use Rattle.protocol_model.specs.Leftovers.{IsQuiet, world}
 use Rattle.protocol_model.proofs.Waiting.{accepted-node}
 use Rattle.no_dead_end.proofs.Indices.{both, neither}
 use Rattle.no_dead_end.proofs.Invariants.{Each, IsUp}
@@ -34,12 +33,13 @@ use Rattle.no_dead_end.proofs.Grounds.{Base, base_keeps, wide}
 use Rattle.no_dead_end.proofs.LocksTold.{nobody_keeps_the_global_lock}
 use Rattle.no_dead_end.proofs.Quiet.{at_ease, registrars, still}
 use Rattle.no_dead_end.specs.Weights.{total}
-use Rattle.no_dead_end.specs.Work.{running}
 use Rattle.no_dead_end.proofs.AdmitsJoined.{AdmitsJoined, keeps, along_ready}
 use Rattle.getting_through.specs.Pending.{pending_weights, pending}
 use Rattle.getting_through.proofs.PendingRules.{decided_one, rule_pending}
 use Rattle.getting_through.proofs.Storm.{is_mild, is_decision, Plain, Still, IsAt, Before, Asking, Again, Active, Held, Asked, Decided, decided_on, parts_self, boss}
 use Rattle.getting_through.proofs.StormRules.{step}
+use Rattle.no_dead_end.specs.Worlds.{of_nodes, IsQuiet, running}
+use Rattle.no_dead_end.specs.Clauses.{world}
 
 -- nobody leaves by such a rule
 pub mild_stays : (b : Bool) (r : Rule) → is_mild b r ≡ true → is_leave r ≡ false
@@ -53,9 +53,9 @@ mild_more b r h = h
 
 -- no rule of a delivery or a retry raises what is pending
 pub lower : (o : Opening) (t : ℕ) (v : World) → Base o v → AdmitsJoined o v → (r : Rule) → Rules.May o t v r → is_mild true r ≡ true
-    → pending o (Rules.effect o t r v) + decided_one (is_decision r) ≤ pending o v
+    → pending (of_nodes o) (Rules.effect o t r v) + decided_one (is_decision r) ≤ pending (of_nodes o) v
 lower o t v B G r m h = subst (λ (s : Nodes). total o.bound pending_weights (λ c. in_world o c && not (s c)) (Rules.effect o t r v)
-    + decided_one (is_decision r) ≤ pending o v) (ap left (effect-turn o t v r (mild_stays true r h)))
+    + decided_one (is_decision r) ≤ pending (of_nodes o) v) (ap left (effect-turn o t v r (mild_stays true r h)))
     (rule_pending o (running o v) t v (along_ready o t v v (record { base = B; admissions = G; stays = refl }) m.inside m.running)
     r m h)
 
@@ -154,12 +154,12 @@ is_stormy may (Deliver f t) = true
 is_stormy may (At c Event.Retry) = may c
 is_stormy may _ = false
 
-module _ (o : Opening) (w : World) (W : Whole o w) (Q : IsQuiet o w) (ops : ℕ → Option Op) (may : Nodes)
+module _ (o : Opening) (w : World) (W : Whole o w) (Q : IsQuiet (of_nodes o) w) (ops : ℕ → Option Op) (may : Nodes)
     (retries : (c : ℕ) (x : Op) → may c ≡ true → (w.node c).current ≡ Current.Waiting x → ops c ≡ Some x) (b : ℕ)
     (up_b : IsUp o w b) (limit : ℕ) where
   -- something was decided, and less is pending
   abbrev pub Less : World → Type 0
-  Less v = Decided o w ops v × (pending o v < limit)
+  Less v = Decided o w ops v × (pending (of_nodes o) v < limit)
 
   -- what is known of a world behind it, in which so much is pending at most, and less once something was decided; where it is
   -- hot somebody asks b, or has the lock there
@@ -167,7 +167,7 @@ module _ (o : Opening) (w : World) (W : Whole o w) (Q : IsQuiet o w) (ops : ℕ 
     pub base : Base o v
     pub admissions : AdmitsJoined o v
     pub stay : left v ≡ left w
-    pub most : pending o v ≤ limit
+    pub most : pending (of_nodes o) v ≤ limit
     pub state : (Still o w ops v × ((c : ℕ) → IsAt o w ops c v) × (hot ≡ true → Active o w ops b v)) ⊎ Less v
 
   chain_on : (hot : Bool) (t : ℕ) (rs : List Rule) (v : World) → Known hot v → Rules.MayAll o t rs v
@@ -178,9 +178,9 @@ module _ (o : Opening) (w : World) (W : Whole o w) (Q : IsQuiet o w) (ops : ℕ 
       let p : (is_mild (may t) r ≡ true) × (list_all (is_mild (may t)) rs ≡ true) =
       both (is_mild (may t) r) (list_all (is_mild (may t)) rs) h in
       let B : Base o (Rules.effect o t r v) = base_keeps o t v r k.base m.0 in
-      let less : pending o (Rules.effect o t r v) + decided_one (is_decision r) ≤ pending o v =
+      let less : pending (of_nodes o) (Rules.effect o t r v) + decided_one (is_decision r) ≤ pending (of_nodes o) v =
       lower o t v k.base k.admissions r m.0 (mild_more (may t) r p.0) in
-      let before : pending o v ≤ limit = k.most in
+      let before : pending (of_nodes o) v ≤ limit = k.most in
       chain_on hot t rs (Rules.effect o t r v) (record {
         base = B;
         admissions = keeps o t v r k.base B m.0 k.admissions;
@@ -190,15 +190,15 @@ module _ (o : Opening) (w : World) (W : Whole o w) (Q : IsQuiet o w) (ops : ℕ 
       }) m.1 p.1
     where
       on : (Still o w ops v × ((c : ℕ) → IsAt o w ops c v) × (hot ≡ true → Active o w ops b v)) ⊎ Less v
-          → is_mild (may t) r ≡ true → pending o (Rules.effect o t r v) + decided_one (is_decision r) ≤ pending o v
+          → is_mild (may t) r ≡ true → pending (of_nodes o) (Rules.effect o t r v) + decided_one (is_decision r) ≤ pending (of_nodes o) v
           → (Still o w ops (Rules.effect o t r v) × ((c : ℕ) → IsAt o w ops c (Rules.effect o t r v))
           × (hot ≡ true → Active o w ops b (Rules.effect o t r v))) ⊎ Less (Rules.effect o t r v)
       on (inl s) mild less = elim (step o w W Q ops may retries v k.base s.0 s.1 t (m.0.inside, m.0.running) r m.0 mild) [
         | inl n ↦ inl (n.0, n.1, λ h. n.2 b up_b (s.2 h))
-        | inr d ↦ let one : decided_one (is_decision r) ≡ 1 = ap decided_one d.1 in let before : pending o v ≤ limit = k.most in
+        | inr d ↦ let one : decided_one (is_decision r) ≡ 1 = ap decided_one d.1 in let before : pending (of_nodes o) v ≤ limit = k.most in
             inr (d.0, omega (arith, less, one, before))
       ]
-      on (inr d) mild less = let before : pending o v < limit = d.1 in
+      on (inr d) mild less = let before : pending (of_nodes o) v < limit = d.1 in
           inr (decided_on o w ops t v r d.0, omega (arith, less, before))
 
   event_on : (hot : Bool) (e : WorldEvent) → is_stormy may e ≡ true → (v : World) → Known hot v → Known hot (happens o v e)
@@ -295,7 +295,7 @@ module _ (o : Opening) (w : World) (W : Whole o w) (Q : IsQuiet o w) (ops : ℕ 
           })
 
   -- once no letter waits again one of them is decided, and less is pending
-  pub decided_at_last : (v : World) (V : Whole o v) (q : IsQuiet o v) → Known true v → Less v
+  pub decided_at_last : (v : World) (V : Whole o v) (q : IsQuiet (of_nodes o) v) → Known true v → Less v
   decided_at_last v V q k = go k.state
     where
       is_up : (c : ℕ) → IsUp o w c → IsUp o v c
@@ -338,7 +338,7 @@ module _ (o : Opening) (w : World) (W : Whole o w) (Q : IsQuiet o w) (ops : ℕ 
       go (inl s) = absurd (cold s.0 (s.2 refl))
 
 -- Where nothing waits all stands as it does
-pub still_first : (o : Opening) (es : List WorldEvent) (Q : IsQuiet o (world o es)) (ops : ℕ → Option Op)
+pub still_first : (o : Opening) (es : List WorldEvent) (Q : IsQuiet (of_nodes o) (world o es)) (ops : ℕ → Option Op)
     → Still o (world o es) ops (world o es)
 still_first o es Q ops = record {
   stay = refl;

@@ -20,7 +20,6 @@ use Rattle.protocol_model.specs.Registrar.{registrar}
 use Rattle.protocol_model.specs.Client.{is_spent, in_phase, close_call, give_lock}
 use Rattle.protocol_model.specs.Reading.{judge}
 use Rattle.protocol_model.specs.World.{Opening, in_world, World, left, join_number}
-use Rattle.protocol_model.specs.Leftovers.{IsQuiet}
 use Rattle.no_dead_end.proofs.Rules
 use Rattle.no_dead_end.proofs.Rules.{Rule, Taken, FrontTaken, kills_in, awaits, IsHeld}
 use Rattle.no_dead_end.proofs.Indices.{greatest_in}
@@ -41,8 +40,9 @@ use Rattle.getting_through.specs.GettingThrough.{reply_now}
 use Rattle.getting_through.proofs.Groups.{below, apart, member_runs, same_members}
 use Rattle.getting_through.proofs.Storm.{is_mild, is_decision, ignored, no_returns, is_simple, Parts, parts_self, NoRequest, members, boss, Plain, IsMark, Active, Held, Asked, Still, Round_at, IsAt, Before, Asking, Again, DecidedIn, Goes, Turned, simple_sends, still_after, active_after}
 use Rattle.getting_through.proofs.StormRounds.{marks_begin, marks_answer, marks_down, refused_by_boss, nobody_of}
+use Rattle.no_dead_end.specs.Worlds.{of_nodes, IsQuiet}
 
-module _ (o : Opening) (w : World) (W : Whole o w) (Q : IsQuiet o w) (ops : ℕ → Option Op) (may : Nodes)
+module _ (o : Opening) (w : World) (W : Whole o w) (Q : IsQuiet (of_nodes o) w) (ops : ℕ → Option Op) (may : Nodes)
     (retries : (c : ℕ) (x : Op) → may c ≡ true → (w.node c).current ≡ Current.Waiting x → ops c ≡ Some x) where
   module _ (v : World) (B : Base o v) (C : Still o w ops v) (K : (c : ℕ) → IsAt o w ops c v) (t : ℕ) (up : IsUp o v t) where
     was_up : (c : ℕ) → IsUp o v c → IsUp o w c

@@ -1,3 +1,7 @@
+pub use Rattle.no_dead_end.specs.Worlds
+pub use Rattle.no_dead_end.specs.Leftovers
+pub use Rattle.no_dead_end.specs.QuietCalls
+pub use Rattle.no_dead_end.specs.ClientLocks
 pub use Rattle.no_dead_end.specs.Settling
 pub use Rattle.no_dead_end.specs.NamedNoDeadEnd
 pub use Rattle.no_dead_end.specs.QuietWorlds
@@ -5,11 +9,10 @@ pub use Rattle.no_dead_end.specs.Answering
 pub use Rattle.no_dead_end.specs.Clauses
 pub use Rattle.no_dead_end.specs.NodeNames
 pub use Rattle.no_dead_end.specs.NamedWorld
-pub use Rattle.no_dead_end.specs.NamedQuietCalls
 pub use Rattle.no_dead_end.specs.Work
 pub use Rattle.no_dead_end.specs.Weights
 pub use Rattle.no_dead_end.specs.Restarts
-pub use Rattle.no_dead_end.specs.NamedLeftovers
+pub use Rattle.no_dead_end.specs.WorldsOfNames
 pub use Rattle.no_dead_end.specs.Lifted
 pub use Rattle.no_dead_end.specs.NamedScript
 pub use Rattle.no_dead_end.specs.JoinNumbers
@@ -17,6 +20,4 @@ pub use Rattle.no_dead_end.specs.NobodyBack
 pub mod Pending
 pub mod GettingThrough
 pub mod GettingFree
-pub mod NamedGettingFree
-pub mod NamedGettingThrough
 pub mod NamedFinishing

@@ -5,9 +5,9 @@ use Rattle.std.specs.Prelude.{ℕ, ◌==◌, ◌+◌, length}
 use Rattle.registry_model.specs.Table.{Table, Change, Put}
 use Rattle.protocol_model.specs.Letter.{Letter}
 use Rattle.protocol_model.specs.Node.{Op}
-use Rattle.protocol_model.specs.World.{Opening, World}
+use Rattle.no_dead_end.specs.Worlds.{Worlds}
 use Rattle.no_dead_end.specs.Weights.{when, Weights, total}
-use Rattle.no_dead_end.specs.Work.{is_put, owned_on, running}
+use Rattle.no_dead_end.specs.Work.{is_put, owned_on}
 
 -- an operation: one round, and those of what follows of it. Who gets a name may have to be struck, and a lone node may join with it
 abbrev pub pending_op : Op → ℕ
@@ -43,5 +43,6 @@ pending_weights = record {
   letter = pending_letter;
 }
 
-abbrev pub pending : Opening → World → ℕ
-pending o w = total o.bound pending_weights (running o w) w
+-- at the nodes that run
+abbrev pub pending : (W : Worlds) → W.World → ℕ
+pending W w = total W.opening.bound pending_weights (W.running w) (W.nodes w)

@@ -1,5 +1,5 @@
 -- Clients' locks: at a running node no resource is held under two requesters.
-use Rattle.protocol_model.specs.ClientLocks.{Exclusion}
+use Rattle.headline.specs.Worlds.{OfNodes, Excludes}
 use Rattle.protocol_model.specs.World.{Opening}
 use Rattle.client_locks.proofs.Walking.{Grounds}
 use Rattle.client_locks.proofs.Tallies.{exclusion_from}
@@ -14,5 +14,5 @@ grounds o = record {
   wide = λ w I once. widens o w I once;
 }
 
-pub exclusion : Exclusion
+pub exclusion : OfNodes Excludes
 exclusion = exclusion_from All grounds

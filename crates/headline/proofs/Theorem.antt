@@ -1,7 +1,7 @@
 -- The headline for every list of events, and each of its clauses.
 use Rattle.std.proofs.Common.{List}
 use Rattle.protocol_model.specs.World.{Opening, WorldEvent}
-use Rattle.protocol_model.specs.Headline.{Agreement}
+use Rattle.headline.specs.Worlds.{OfNodes, Agrees}
 use Rattle.fitting.proofs.Theorem
 use Rattle.headline.specs.Clauses.{world, events, HistoryGrows, HistoryIsLegal, HistoryFits, AnswersAreEntries, AnswersComeInTime, EntriesAreMadeAtHome, IsDecidedUnderLock, EachLookUpOnce, CallsAreAnsweredOnce, JoinersAreAnswered, ShowsWhenFree, ShowsWhenHeld, YesIsWritten, JoinedIsWelcomed, LeaveWaits, HolderHolds}
 use Rattle.headline.proofs.Together.{Whole, run_whole, whole_opens}
@@ -75,7 +75,7 @@ pub holder_holds : HolderHolds
 holder_holds o es = Fields.holder o (events o es) (world o es) (whole o es) (told o es)
 
 -- the headline
-pub agreement : Agreement
+pub agreement : OfNodes Agrees
 agreement o es = record {
   history = history_grows o es;
   legal = history_is_legal o es;

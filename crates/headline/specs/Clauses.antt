@@ -27,6 +27,10 @@ module _ (o : Opening) (es : List WorldEvent) where
   abbrev pub so_far : Standing
   so_far = standing o events
 
+-- it holds behind all events, of worlds of nodes
+abbrev pub Always : (Opening → List WorldEvent → World → Type 0) → Type 0
+Always Law = (o : Opening) (es : List WorldEvent) → Law o es (world o es)
+
 -- the history grows at its end only, event by event
 abbrev pub HistoryGrows : Type 0
 HistoryGrows = (o : Opening) (es : List WorldEvent) → (now o es).history ≡ entries_of (events o es)

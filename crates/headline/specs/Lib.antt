@@ -1,3 +1,4 @@
+pub mod Worlds
 pub mod Clauses
 pub mod Laws
 pub mod Tie

@@ -2,8 +2,7 @@
 //! Each law is the contract of a function with an empty body.
 #![tactic(auto)]
 
-ghost use Rattle.protocol_model.specs.ClientLocks.{Exclusion};
-ghost use Rattle.protocol_model.specs.Headline.{Agreement};
+ghost use Rattle.headline.specs.Worlds.{OfNodes, Agrees, Excludes};
 ghost use Rattle.headline.specs.Clauses.{HistoryGrows, HistoryIsLegal, HistoryFits, AnswersAreEntries, AnswersComeInTime, EntriesAreMadeAtHome, IsDecidedUnderLock, EachLookUpOnce, LookUpsReadTheTable, SpawnsGiveTheNext, ExitsKillAtOnce, CallsAreAnsweredOnce, JoinersAreAnswered, ShowsWhenFree, ShowsWhenHeld, YesIsWritten, JoinedIsWelcomed, LeaveWaits, RefusalsInWords, HolderHolds};
 ghost use Rattle.headline.specs.Tie.{TestAsksTheHeadline, HeadlineWhereTestPasses};
 ghost use Rattle.headline.specs.Laws.{OneHolder, OneOwnerAtEach, JoinedAgree, NoToTheTaken, YesToTheFreeOnly, YesStands, YesIsFound, RefusedChangesNothing, SpawnsGiveNew, FixedAgreement};
@@ -11,12 +10,12 @@ ghost use Rattle.headline.specs.Laws.{OneHolder, OneOwnerAtEach, JoinedAgree, No
 /// All answers to name calls and joins are those of one sequential registry that takes the granted operations in lock order,
 /// and whenever the lock is free, the replicas are that registry's.
 pub fn agreement()
-    ensures { Agreement }
+    ensures { OfNodes Agrees }
 {}
 
 /// Clients' locks exclude each other: at a running node no resource is held under two requesters.
 pub fn exclusion()
-    ensures { Exclusion }
+    ensures { OfNodes Excludes }
 {}
 
 /// The history of a world is what its events entered, each at its end.

@@ -28,7 +28,6 @@ use Rattle.headline.proofs.Rules.{Walked}
 use Rattle.headline.proofs.Invariants.{IsUp}
 use Rattle.walk.proofs.Events.{Accepted, accepted_of}
 use Rattle.walk.proofs.Walk.{event_walked}
-use Rattle.protocol_model.specs.Leftovers.{world, Always, DeathsAreCarriedOut, KnownDeadOwnNothing}
 use Rattle.protocol_model.proofs.Waiting.{accepted-node}
 use Rattle.headline.proofs.Exiting.{dead_event, exit_kills}
 use Rattle.leftovers.proofs.Grounds.{Base, wide, replicas, between}
@@ -37,6 +36,9 @@ use Rattle.leftovers.proofs.Verdicts.{Admitted, harmless_dead, admitted_dead}
 use Rattle.leftovers.proofs.DoomedEvents.{Doomed, kill_stays, letter_dead, Decides, Result, receive_result}
 use Rattle.leftovers.proofs.Families.{Families, families_keep, families_open, whole}
 use Rattle.leftovers.proofs.Names.{no_departed, owner_inside, no_dead}
+use Rattle.headline.specs.Clauses.{world}
+use Rattle.headline.specs.Worlds.{OfNodes}
+use Rattle.leftovers.specs.Leftovers.{DeathsAreCarriedOut, KnownDeadOwnNothing}
 
 -- what an event adds to the history
 accepted-history : (o : Opening) (w : World) (e : WorldEvent)
@@ -252,14 +254,14 @@ pub doomed_along : (o : Opening) (es : List WorldEvent) → Doomed o (world o es
 doomed_along o es = between o (Families o) (families_keep o) (Doomed o)
     (λ w e b c h D. doomed_next o w b.base e c.base h D) (families_open o) (doomed_opens o) es
 
-pub deaths_are_carried_out : Always DeathsAreCarriedOut
+pub deaths_are_carried_out : OfNodes DeathsAreCarriedOut
 deaths_are_carried_out o es p quiet up client known = elim (doomed_along o es p client up known) [
   | inl h ↦ h
   | inr k ↦ absurd (cc (sym (ap (has_kill p) (quiet k.0 p.node k.1 up)) ∙ k.2))
 ]
 
 -- nor has a running node of a settled world a name of such a process
-pub known_dead_own_nothing : Always KnownDeadOwnNothing
+pub known_dead_own_nothing : OfNodes KnownDeadOwnNothing
 known_dead_own_nothing o es c settled up pair listed client known =
     let departed : left (world o es) pair.owner.node ≡ false =
     no_departed o (world o es) (whole o es) settled.quiet c up pair listed in

@@ -26,7 +26,6 @@ use Rattle.headline.proofs.Tallies.{numbers_agree}
 use Rattle.protocol_model.proofs.Ids.{is_id_self}
 use Rattle.headline.proofs.Ids.{is_process_same, is_process_self}
 use Rattle.headline.proofs.Together.{All}
-use Rattle.protocol_model.specs.Leftovers.{world, Always, IsQuiet, HeldLocksStand, LocksAreAsTold, NoEmptyGrants, NobodyKeepsTheGlobalLock, DeadHoldersHoldNothing, FreeLocksAreGranted}
 use Rattle.leftovers.proofs.Grounds.{lock_state}
 use Rattle.headline.proofs.Clients.{grounds}
 use Rattle.leftovers.proofs.GrantLists.{all_grants, all_count, all_filter}
@@ -35,6 +34,9 @@ use Rattle.leftovers.proofs.Granted.{is_grant_known, suits_holder}
 use Rattle.leftovers.proofs.Freed.{none_of_holder, is_freed}
 use Rattle.leftovers.proofs.Families.{Whole, whole}
 use Rattle.leftovers.proofs.Quiet.{rid, still, at_ease, registrars, live_counts}
+use Rattle.headline.specs.Clauses.{world}
+use Rattle.headline.specs.Worlds.{of_nodes, OfNodes, IsQuiet}
+use Rattle.leftovers.specs.Leftovers.{HeldLocksStand, LocksAreAsTold, NoEmptyGrants, NobodyKeepsTheGlobalLock, DeadHoldersHoldNothing, FreeLocksAreGranted}
 
 -- who has no grant isn't counted
 none_counts : (id : Id) (p : Process) (t : Locks) → none_of_holder p t ≡ true → count id p t ≡ 0
@@ -105,7 +107,7 @@ not_given (g ∷ t) b h =
     one (Global x) k = cc k
     one (Client r q) k = refl
 
-module _ (o : Opening) (w : World) (W : Whole o w) (Q : IsQuiet o w) where
+module _ (o : Opening) (w : World) (W : Whole o w) (Q : IsQuiet (of_nodes o) w) where
   -- no running node's registrar has a share of the lock
   no_share : (r x : ℕ) → IsUp o w r → IsUp o w x → share r (globals (w.node x).locks) ≡ None
   no_share r x ur ux =
@@ -223,7 +225,7 @@ module _ (o : Opening) (es : List WorldEvent) where
   told : Clients o (world o es) (λ p id x. RoundNumbers.round_count o es p id x)
   told = (lock_state o es).clients
 
-pub held_locks_stand : Always HeldLocksStand
+pub held_locks_stand : OfNodes HeldLocksStand
 held_locks_stand o es c up id p = subst (λ (n : ℕ). n ≤ count id p ((world o es).node c).locks)
     (sym (same_number o es p id c)) (go (lives o (world o es) p) refl)
   where
@@ -236,7 +238,7 @@ held_locks_stand o es c up id p = subst (λ (n : ℕ). n ≤ count id p ((world 
       settled_le id (asks p ((world o es).links.queue p.node c)) (count id p ((world o es).node c).locks),
     )
 
-pub locks_are_as_told : Always LocksAreAsTold
+pub locks_are_as_told : OfNodes LocksAreAsTold
 locks_are_as_told o es c quiet up id p = go (lives o (world o es) p) refl ∙ sym (same_number o es p id c)
   where
     go : (b : Bool) → lives o (world o es) p ≡ b
@@ -248,15 +250,15 @@ locks_are_as_told o es c quiet up id p = go (lives o (world o es) p) refl ∙ sy
         live_counts o (world o es) (whole o es) quiet (λ q i x. RoundNumbers.round_count o es q i x) (told o es) p id c h
         (l.inside, l.up) up
 
-pub no_empty_grants : Always NoEmptyGrants
+pub no_empty_grants : OfNodes NoEmptyGrants
 no_empty_grants o es c quiet up g listed = subst (λ (n : ℕ). 0 < n) (locks_are_as_told o es c quiet up g.id g.holder)
     (listed_counts ((world o es).node c).locks g ((whole o es).families.granted c).count listed)
 
-pub nobody_keeps_the_global_lock : Always NobodyKeepsTheGlobalLock
+pub nobody_keeps_the_global_lock : OfNodes NobodyKeepsTheGlobalLock
 nobody_keeps_the_global_lock o es c b quiet up =
     not_given ((world o es).node c).locks b (no_global_grants o (world o es) (whole o es) quiet c up)
 
-pub dead_holders_hold_nothing : Always DeadHoldersHoldNothing
+pub dead_holders_hold_nothing : OfNodes DeadHoldersHoldNothing
 dead_holders_hold_nothing o es c quiet up g listed = go (is_no_more (world o es) g.holder) refl
   where
     dead : is_no_more (world o es) g.holder ≡ true → lives o (world o es) g.holder ≡ false
@@ -291,7 +293,7 @@ find_none {A} test (x ∷ xs) none = go (test x) (none x (Contains-front x xs))
     go true e h = cc e
     go false e h = h
 
-pub free_locks_are_granted : Always FreeLocksAreGranted
+pub free_locks_are_granted : OfNodes FreeLocksAreGranted
 free_locks_are_granted o es c quiet up id p alone few =
     ap (λ (x : Option Grant). is_none (refused_by id p t x)) (find_none (is_in_the_way id) t clear)
     ∙ ap (λ (b : Bool). is_none (if b then None else Some id)) (lt-ltb (count id p t) last_count

@@ -18,7 +18,6 @@ use Rattle.headline.proofs.Invariants
 use Rattle.headline.proofs.Invariants.{IsUp, Replicas, standing_at}
 use Rattle.headline.proofs.Tokens.{Gate, Away, Knock, Wait, Turned, Entering, is_away, knocks, returns, admissions, jobs, asked_for, knocks_of, returns_of, queued_of, is_wait}
 use Rattle.headline.proofs.States
-use Rattle.protocol_model.specs.Leftovers.{world, Always, IsQuiet, DeparturesAreTold, NoNameOnADepartedNode, DeadOwnersOwnNothing}
 use Rattle.leftovers.proofs.Grounds.{replicas}
 use Rattle.leftovers.proofs.Rest.{WorkRests}
 use Rattle.leftovers.proofs.Started.{Idle}
@@ -26,8 +25,11 @@ use Rattle.leftovers.proofs.Owners.{joined_owner}
 use Rattle.leftovers.proofs.Families.{Whole, whole}
 use Rattle.leftovers.proofs.Quiet.{rid, at_ease, registrars}
 use Rattle.headline.proofs.Ids.{is_process_self}
+use Rattle.headline.specs.Clauses.{world}
+use Rattle.headline.specs.Worlds.{of_nodes, OfNodes, IsQuiet}
+use Rattle.leftovers.specs.Leftovers.{DeparturesAreTold, NoNameOnADepartedNode, DeadOwnersOwnNothing}
 
-pub departures_are_told : Always DeparturesAreTold
+pub departures_are_told : OfNodes DeparturesAreTold
 departures_are_told o es c d quiet up gone = (rid o (world o es) (whole o es) quiet c d up gone).0
 
 -- what is kept of a filtered list passes, and was there before
@@ -85,7 +87,7 @@ none_owed a t (d ∷ ds) h s e = go (owns (record { node = a; serial = d }) t) r
         first true i q = ap (λ (x : ℕ). owns (record { node = a; serial = x }) t) (sym (eqb-true d s i)) ∙ k
         first false i q = more n s q
 
-module _ (o : Opening) (w : World) (W : Whole o w) (Q : IsQuiet o w) where
+module _ (o : Opening) (w : World) (W : Whole o w) (Q : IsQuiet (of_nodes o) w) where
   R : Replicas o w
   R = replicas o w W.base
 
@@ -296,10 +298,10 @@ module _ (o : Opening) (w : World) (W : Whole o w) (Q : IsQuiet o w) where
               owner_found (w.node pair.owner.node).replica.table pair (at_home c up pair listed home),
             )
 
-pub no_name_on_a_departed_node : Always NoNameOnADepartedNode
+pub no_name_on_a_departed_node : OfNodes NoNameOnADepartedNode
 no_name_on_a_departed_node o es c quiet up pair listed = no_departed o (world o es) (whole o es) quiet c up pair listed
 
-pub dead_owners_own_nothing : Always DeadOwnersOwnNothing
+pub dead_owners_own_nothing : OfNodes DeadOwnersOwnNothing
 dead_owners_own_nothing o es c settled up pair listed =
     ap (λ (b : Bool). b || is_dead ((world o es).node pair.owner.node).watch pair.owner.serial)
     (no_departed o (world o es) (whole o es) settled.quiet c up pair listed)

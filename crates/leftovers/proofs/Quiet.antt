@@ -16,13 +16,13 @@ use Rattle.headline.proofs.ClientLocksSessions.{View, Live, view}
 use Rattle.headline.proofs.ClientLocksSessions as Sessions
 use Rattle.headline.proofs.ClientLocksMail.{asks, echoes}
 use Rattle.headline.proofs.ClientLocksClients.{Numbers, Clients, call_at, lives, caller_lives}
-use Rattle.protocol_model.specs.Leftovers.{IsQuiet}
 use Rattle.leftovers.proofs.RoundFacts.{is_to_come, is_before}
 use Rattle.leftovers.proofs.Departures.{IsRid, has_down}
 use Rattle.leftovers.proofs.Rest.{Awaited, RoundRests, WorkRests, PhaseRests}
 use Rattle.leftovers.proofs.Families.{Whole}
+use Rattle.headline.specs.Worlds.{of_nodes, IsQuiet}
 
-module _ (o : Opening) (w : World) (W : Whole o w) (Q : IsQuiet o w) where
+module _ (o : Opening) (w : World) (W : Whole o w) (Q : IsQuiet (of_nodes o) w) where
   -- a link between nodes that run
   nothing : (x y : ℕ) → IsUp o w x → IsUp o w y → w.links.queue x y ≡ []
   nothing x y ux uy = Q x y ux.0 uy

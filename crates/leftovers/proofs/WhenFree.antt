@@ -5,11 +5,13 @@ use Rattle.registry_model.specs.Process.{Process}
 use Rattle.registry_model.specs.History.{Hold, hold_at}
 use Rattle.protocol_model.specs.Letter.{Letter}
 use Rattle.protocol_model.specs.World.{Opening, World}
-use Rattle.protocol_model.specs.Leftovers.{world, Always, DeathsAreCarriedOutWhenFree}
 use Rattle.headline.proofs.Invariants.{Each, is_write, standing_at, IsOnItsWay}
 use Rattle.headline.proofs.Together
 use Rattle.leftovers.proofs.Extends.{has_kill, kills_by}
 use Rattle.leftovers.proofs.Carried.{doomed_along}
+use Rattle.headline.specs.Clauses.{world}
+use Rattle.headline.specs.Worlds.{OfNodes}
+use Rattle.leftovers.specs.Leftovers.{DeathsAreCarriedOutWhenFree}
 
 -- a letter by which somebody dies carries an operation out
 kill_writes : (o : Opening) (w : World) (p : Process) (l : Letter) → kills_by p l ≡ true → is_write o w l ≡ true
@@ -32,7 +34,7 @@ nothing_holds : (h : Option Hold) → IsTrue (is_none h) → h ≡ None
 nothing_holds None t = refl
 nothing_holds (Some hold) t = cc t
 
-pub deaths_are_carried_out_when_free : Always DeathsAreCarriedOutWhenFree
+pub deaths_are_carried_out_when_free : OfNodes DeathsAreCarriedOutWhenFree
 deaths_are_carried_out_when_free o es p free up client known = elim (doomed_along o es p client up known) [
   | inl h ↦ h
   | inr k ↦ absurd (no_kill o (world o es) k.0 p.node p (nothing_holds (hold_at (standing_at o (world o es)) p.node) free)

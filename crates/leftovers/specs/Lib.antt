@@ -1,1 +1,3 @@
+pub use Rattle.headline.specs.Worlds
 pub use Rattle.headline.specs.Clauses
+pub mod Leftovers

@@ -1,7 +1,4 @@
 -- Clients' locks behind every list of events: they exclude each other, and what comes next is answered so.
-use Rattle.std.proofs.Common.{List}
-use Rattle.protocol_model.specs.World.{Opening, WorldEvent, opening_world, run}
-use Rattle.protocol_model.specs.LockAnswers.{ClientLocks}
 use Rattle.leftovers.proofs.HeadlineClients.{exclusion}
 use Rattle.lock_answers.proofs.Living.{answers_the_living}
 use Rattle.lock_answers.proofs.RetriesUsed.{uses_all_retries, uses_no_more}
@@ -10,8 +7,10 @@ use Rattle.lock_answers.proofs.Held.{is_held_somewhere}
 use Rattle.lock_answers.proofs.GivenBack.{given_back}
 use Rattle.lock_answers.proofs.QuietCalls.{quiet_calls_are_told, quiet_calls_are_answered}
 use Rattle.lock_answers.proofs.Waiting.{reads_the_seen}
+use Rattle.lock_answers.specs.ClientLocks.{ClientLocks}
+use Rattle.leftovers.specs.Worlds.{OfNodes}
 
-pub client_locks : (o : Opening) (es : List WorldEvent) → ClientLocks o es (run o (opening_world o) es)
+pub client_locks : OfNodes ClientLocks
 client_locks o es = record {
   exclusion = exclusion o es;
   reads = reads_the_seen o es;

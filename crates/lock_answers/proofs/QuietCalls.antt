@@ -19,9 +19,7 @@ use Rattle.protocol_model.specs.Registrar.{start}
 use Rattle.protocol_model.specs.Client.{in_phase, new_call, try_lock, ask_lock, close_call}
 use Rattle.protocol_model.specs.ClientLocks.{Holds}
 use Rattle.protocol_model.specs.Answers.{answer_to}
-use Rattle.protocol_model.specs.Leftovers.{world, Always, IsQuiet}
 use Rattle.protocol_model.specs.Fit.{is_delivery}
-use Rattle.protocol_model.specs.QuietCalls.{called_once, IsFree, Tells, QuietCallsAreTold, QuietCallsAreAnswered}
 use Rattle.protocol_model.specs.World.{Opening, in_world, World, left, WorldEvent, opening_world, turn_of, refusal, happens, answers, all_answers, run}
 use Rattle.protocol_model.proofs.Ids
 use Rattle.protocol_model.proofs.Ids.{is_id_self}
@@ -42,6 +40,9 @@ use Rattle.leftovers.proofs.LocksTold.{locks_are_as_told, free_locks_are_granted
 use Rattle.lock_answers.proofs.QuietBase.{Same, starts_nothing, grants, verdict, due_answer, IsMark, Ours, Asking, GoesOn, Ends, Step}
 use Rattle.lock_answers.proofs.QuietEvents.{Unchanged, Phase, Open, Over, Alone}
 use Rattle.lock_answers.proofs.QuietCourse.{goes_on, ends, given, all_said, open_until}
+use Rattle.leftovers.specs.Clauses.{world}
+use Rattle.leftovers.specs.Worlds.{of_nodes, OfNodes, IsQuiet}
+use Rattle.lock_answers.specs.QuietCalls.{called_once, IsFree, Tells, QuietCallsAreTold, QuietCallsAreAnswered}
 
 -- what is known of a `set_lock` that is accepted
 record IsCalled (o : Opening) (w : World) (p : Process) : Type 0 where
@@ -50,7 +51,7 @@ record IsCalled (o : Opening) (w : World) (p : Process) : Type 0 where
   idle : call_at w p ≡ None
 
 is_called : (o : Opening) (w : World) (p : Process) (r z : Text) (target : Target)
-    → refusal o w (called_once p r z target) ≡ None → IsCalled o w p
+    → refusal o w (called_once (of_nodes o) p r z target) ≡ None → IsCalled o w p
 is_called o w p r z target h = go (in_world o p.node) (left w p.node) (is_live p.node (w.node p.node).watch p)
     (call_at w p) refl refl refl refl h
   where
@@ -84,7 +85,7 @@ counted_listed id p (g ∷ t) h = go (is_grant_of id p g) refl h (counted_listed
         (one.0, Contains-behind g t one.0 one.1, one.2)
 
 module _ (o : Opening) (es : List WorldEvent) (p : Process) (r z : Text) (target : Target)
-    (quiet : IsQuiet o (world o es)) (h : refusal o (world o es) (called_once p r z target) ≡ None) where
+    (quiet : IsQuiet (of_nodes o) (world o es)) (h : refusal o (world o es) (called_once (of_nodes o) p r z target) ≡ None) where
   abbrev w : World
   w = world o es
 
@@ -98,7 +99,7 @@ module _ (o : Opening) (es : List WorldEvent) (p : Process) (r z : Text) (target
   whom = targets (w.node p.node).replica.members target
 
   abbrev e : WorldEvent
-  e = called_once p r z target
+  e = called_once (of_nodes o) p r z target
 
   W : Whole o w
   W = whole o es
@@ -341,7 +342,7 @@ module _ (o : Opening) (es : List WorldEvent) (p : Process) (r z : Text) (target
     last_whole = subst (Whole o) (run_more es (e ∷ ds) (opening_world o)) (whole o (es ++ e ∷ ds))
 
     -- in a quiet world the call isn't open
-    not_open : IsQuiet o (run o w (e ∷ ds)) → IsAlone (run o w (e ∷ ds)) true → ⊥
+    not_open : IsQuiet (of_nodes o) (run o w (e ∷ ds)) → IsAlone (run o w (e ∷ ds)) true → ⊥
     not_open q A = by true A.phase refl
       where
         by : (b : Bool) → Phase o w W.started p id k whom below living (run o w (e ∷ ds)) A.num b → b ≡ true → ⊥
@@ -351,7 +352,7 @@ module _ (o : Opening) (es : List WorldEvent) (p : Process) (r z : Text) (target
         )
         by false (Over found) i = cc i
 
-    pub comes : IsQuiet o (run o w (e ∷ ds)) → Contains (all_answers o w (e ∷ ds)) its
+    pub comes : IsQuiet (of_nodes o) (run o w (e ∷ ds)) → Contains (all_answers o w (e ∷ ds)) its
     comes q = by (first_by (is_empty o.bound whom) refl)
       where
         later : Contains (all_answers o (happens o w e) ds) its ⊎ IsAlone (run o (happens o w e) ds) true
@@ -365,10 +366,10 @@ module _ (o : Opening) (es : List WorldEvent) (p : Process) (r z : Text) (target
         by (inr (A, told)) = Contains-append_left (answers o w e) (all_answers o (happens o w e) ds) its
             (subst (λ (ss : List Answer). Contains ss its) (sym told) (Contains-front its []))
 
-pub quiet_calls_are_told : Always QuietCallsAreTold
+pub quiet_calls_are_told : OfNodes QuietCallsAreTold
 quiet_calls_are_told o es p r z target ds Q s A = tells o es p r z target Q.quiet Q.accepted ds Q.delivered s A.listed
 
-pub quiet_calls_are_answered : Always QuietCallsAreAnswered
+pub quiet_calls_are_answered : OfNodes QuietCallsAreAnswered
 quiet_calls_are_answered o es p r z target ds Q q = (
   its o es p r z target Q.quiet Q.accepted ds Q.delivered,
   record { listed = comes o es p r z target Q.quiet Q.accepted ds Q.delivered q; node = refl; number = refl },

@@ -14,9 +14,8 @@ use Rattle.protocol_model.specs.Answers.{answers_under}
 use Rattle.protocol_model.specs.Course.{standing}
 use Rattle.protocol_model.specs.Watch.{is_dead}
 use Rattle.protocol_model.specs.ClientLocks.{Try, waits_for_retry, is_no_more}
-use Rattle.protocol_model.specs.Leftovers.{IsQuiet}
 use Rattle.protocol_model.specs.Refusals.{HasOpenCall}
-use Rattle.protocol_model.specs.LockAnswers.{Tries, tries_of, AreUsedUp, IsUnanswered, WaitsForRetry, ReadsTheSeen}
+use Rattle.protocol_model.specs.LockAnswers.{Tries, tries_of, AreUsedUp, IsUnanswered, WaitsForRetry}
 use Rattle.protocol_model.specs.World.{Opening, in_cluster, World, WorldEvent, At, Deliver, place, left, opening_world, refusal, accepted, turn_of}
 use Rattle.moves.proofs.Indices.{neither}
 use Rattle.walk.proofs.Events.{accepted_of}
@@ -41,6 +40,8 @@ use Rattle.lock_answers.proofs.ReasonSteps.{Reasons}
 use Rattle.lock_answers.proofs.Reasons.{MarksIn}
 use Rattle.lock_answers.proofs.RetriesUsed.{spent}
 use Rattle.lock_answers.proofs.Spending.{AreLeft, IsSpending}
+use Rattle.leftovers.specs.Worlds.{of_nodes, IsQuiet}
+use Rattle.lock_answers.specs.ClientLocks.{ReadsTheSeen}
 
 -- a call that waits is in this phase, and no deletion
 waiting_phase : (f : LockPhase) → is_waiting_call f ≡ true → f ≡ LockPhase.Waiting
@@ -208,7 +209,7 @@ module _ (o : Opening) (es : List WorldEvent) where
             (ap is_deleting (waiting_phase c.phase j))) (tries_of o es p) refl
 
     -- in a quiet world the last `set_lock` waits, unless it is answered
-    waits : (x : Tries) → IsQuiet o w → is_no_more w p ≡ false → tries_of o es p ≡ Some x
+    waits : (x : Tries) → IsQuiet (of_nodes o) w → is_no_more w p ≡ false → tries_of o es p ≡ Some x
         → answers_under p.node x.last.number (events o es) ≡ [] → waits_for_retry w p ≡ true
     waits x quiet live is none =
         let S : IsSet _ p x = is_set o p es x is in
@@ -229,7 +230,7 @@ module _ (o : Opening) (es : List WorldEvent) where
         ∙ ap is_waiting_call (calls_wait o w (whole o es) quiet p I.0 (L.inside, up.0) I.1)
 
   -- all this together
-  pub reads_the_seen : ReadsTheSeen o es w
+  pub reads_the_seen : ReadsTheSeen (of_nodes o) es w
   reads_the_seen = record {
     refused = refused;
     waits = waits;

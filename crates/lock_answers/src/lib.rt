@@ -2,23 +2,22 @@
 //! deletion leaves. Each law is the contract of a function with an empty body.
 #![tactic(auto)]
 
-ghost use Rattle.std.specs.Prelude.{List};
-ghost use Rattle.protocol_model.specs.World.{Opening, WorldEvent, opening_world, run};
-ghost use Rattle.protocol_model.specs.LockAnswers.{ReadsTheSeen, ClientLocks, AtEachStep, AnswersTheLiving, UsesAllRetries, UsesNoMore, FailsForAReason, IsHeldSomewhere, IsGivenBack};
-ghost use Rattle.protocol_model.specs.Leftovers.{Always};
-ghost use Rattle.protocol_model.specs.QuietCalls.{QuietCallsAreTold, QuietCallsAreAnswered};
+ghost use Rattle.protocol_model.specs.LockAnswers.{AtEachStep, AnswersTheLiving, UsesAllRetries, UsesNoMore, FailsForAReason, IsHeldSomewhere, IsGivenBack};
+ghost use Rattle.lock_answers.specs.ClientLocks.{ReadsTheSeen, ClientLocks};
+ghost use Rattle.leftovers.specs.Worlds.{OfNodes};
+ghost use Rattle.lock_answers.specs.QuietCalls.{QuietCallsAreTold, QuietCallsAreAnswered};
 
 /// Clients' locks exclude each other behind every list of events, they are counted by what is seen, and what comes next is answered
 /// as the laws below say.
 pub fn client_locks()
-    ensures { (o : Opening) (es : List WorldEvent) → ClientLocks o es (run o (opening_world o) es) }
+    ensures { OfNodes ClientLocks }
 {}
 
 /// Who is refused and who is gone is as it is seen. A refused process isn't dead, and its last `set_lock` isn't answered, failed
 /// for a reason and may be tried again; in a quiet world each last `set_lock` that isn't answered is refused, unless its process
 /// is gone. And a process is gone where its node has left, or shows that it is dead.
 pub fn reads_the_seen()
-    ensures { (o : Opening) (es : List WorldEvent) → ReadsTheSeen o es (run o (opening_world o) es) }
+    ensures { OfNodes ReadsTheSeen }
 {}
 
 /// No lock call is answered of a process that is dead or whose node has left, before the step or behind it.
@@ -55,10 +54,10 @@ pub fn deletions_are_done()
 /// A `set_lock` with no retries that is called while no letter waits is answered `true` where the lock is free at all nodes that it
 /// asks, and else `false`, whichever letters are delivered behind it.
 pub fn quiet_calls_are_told()
-    ensures { Always QuietCallsAreTold }
+    ensures { OfNodes QuietCallsAreTold }
 {}
 
 /// And once no letter waits again it has been answered.
 pub fn quiet_calls_are_answered()
-    ensures { Always QuietCallsAreAnswered }
+    ensures { OfNodes QuietCallsAreAnswered }
 {}

@@ -14,7 +14,6 @@ use Rattle.protocol_model.proofs.Courses.{answers-append}
 use Rattle.creations.specs.NodeNames.{NamedOpening, is_name, node_of, name_of, creation_of, opening_of}
 use Rattle.creations.specs.NamedWorld.{NamedWorld, NamedEvent, Deliver, Plain, present_node, has_started, sender_to, named_refusal, plain_accepted, named_answers, happens_named, run_named, plain_events, after_events}
 use Rattle.creations.specs.NamedScript.{NamedLine, NamedOutput, Said, Settled, SettleLimit, settled, next_named, named_deliveries_left, printed}
-use Rattle.creations.specs.NamedLeftovers.{NamesAreQuiet}
 use Rattle.creations.proofs.Numbers.{name-node, node-number, inside-name, is_creation}
 use Rattle.creations.proofs.Lists.{nodes_rise}
 use Rattle.creations.proofs.Standing.{Sound, started_to, present_started, up_present}
@@ -24,6 +23,8 @@ use Rattle.named_events.specs.Events.{IsOldestSender}
 use Rattle.named_events.specs.Settling.{LetterWaitsByName, NoLetterWaits, IsFirstByName, SettlesByName, SettlingByName}
 use Rattle.named_events.proofs.OfNodes.{sender, delivery}
 use Rattle.named_events.proofs.Rows.{FromAll, from_all}
+use Rattle.creations.specs.Worlds.{IsQuiet}
+use Rattle.creations.specs.WorldsOfNames.{of_names}
 
 -- what a world refuses of a delivery, by what is tested
 abbrev by_tests : Bool → Bool → Bool → List Letter → Option Refusal
@@ -144,7 +145,7 @@ module _ (o : NamedOpening) (w : NamedWorld) (s : Sound o w) where
 
   -- where no letter waits by names, none waits for a node that has started and runs
   module _ (es : List NamedEvent) where
-    quiet_by : NoLetterWaits o w → NamesAreQuiet o es w
+    quiet_by : NoLetterWaits o w → IsQuiet (of_names o) w
     quiet_by none f c i up = go (has_started o w f) refl (w.world.links.queue f c) refl
       where
         here : c ≡ present_node o w (name_of o c)
@@ -167,7 +168,7 @@ module _ (o : NamedOpening) (w : NamedWorld) (s : Sound o w) where
           ));
         }))
 
-    none_by : NamesAreQuiet o es w → NoLetterWaits o w
+    none_by : IsQuiet (of_names o) w → NoLetterWaits o w
     none_by quiet f t L = L.waits (quiet (node_of o f L.creation) (present_node o w t)
         (inside f L.creation L.first L.last ∙ L.sender) (record {
           inside = present_inside t ∙ L.receiver;

@@ -1,10 +1,13 @@
+pub use Rattle.creations.specs.Worlds
+pub use Rattle.creations.specs.Leftovers
+pub use Rattle.creations.specs.QuietCalls
+pub use Rattle.creations.specs.ClientLocks
 pub use Rattle.creations.specs.NodeNames
 pub use Rattle.creations.specs.NamedWorld
-pub use Rattle.creations.specs.NamedQuietCalls
 pub use Rattle.creations.specs.Restarts
 pub use Rattle.creations.specs.NamedScript
 pub use Rattle.creations.specs.Clauses
-pub use Rattle.creations.specs.NamedLeftovers
+pub use Rattle.creations.specs.WorldsOfNames
 pub use Rattle.creations.specs.Lifted
 pub use Rattle.creations.specs.JoinNumbers
 pub use Rattle.creations.specs.NobodyBack

@@ -6,7 +6,8 @@ use Rattle.protocol_model.specs.World.{left}
 use Rattle.creations.specs.NodeNames.{NamedOpening, is_name, node_of}
 use Rattle.creations.specs.NamedWorld.{NamedWorld, NamedEvent, Deliver, named_answers, happens_named, run_named, after_events}
 use Rattle.creations.specs.NamedScript.{NamedLine, Said, Settled, SettleLimit, next_named, named_deliveries_left, events_in, printed}
-use Rattle.creations.specs.NamedLeftovers.{NamesAreQuiet}
+use Rattle.creations.specs.Worlds.{IsQuiet}
+use Rattle.creations.specs.WorldsOfNames.{of_names}
 
 module _ (o : NamedOpening) (w : NamedWorld) where
   -- a letter from a node of the name f waits for the present node of the name t, which runs
@@ -52,7 +53,7 @@ pub record SettlesByName (o : NamedOpening) (es : List NamedEvent) (w : NamedWor
   -- and these deliveries are the events of the line
   pub plays : (most : ℕ) → events_in o most w NamedLine.Settle ≡ named_deliveries_left o most w
   -- no letter waits by names exactly where none waits on a link to a node that has started and runs
-  pub quiet : NoLetterWaits o w ↔ NamesAreQuiet o es w
+  pub quiet : NoLetterWaits o w ↔ IsQuiet (of_names o) w
 
 -- So it is behind all events
 abbrev pub SettlingByName : Type 0

@@ -29,10 +29,10 @@ use Rattle.named_events.proofs.Grounds.{Base, Both, base_keeps, along}
 use Rattle.protocol_model.specs.Event.{is_joining}
 use Rattle.named_events.proofs.Gates.{OnceIn, has_join}
 use Rattle.named_events.proofs.States.{joined_now}
-use Rattle.no_dead_end.specs.Work.{running}
 use Rattle.no_dead_end.proofs.RuleWork.{Ready}
 use Rattle.no_dead_end.proofs.LetterWork.{joins}
 use Rattle.no_dead_end.proofs.Premises.{joined_member, no_join, Beside, is_ready}
+use Rattle.named_events.specs.Worlds.{running}
 
 abbrev pub is_admit : Letter → Bool
 is_admit (Letter.Admit j s) = true

@@ -11,10 +11,9 @@ use Rattle.protocol_model.specs.Round.{Mark, Out, Later, Owes, Granted, Refused,
 use Rattle.protocol_model.specs.Letter.{Letter}
 use Rattle.protocol_model.specs.Node.{Node, Op, Current, LockPhase, LockCall}
 use Rattle.protocol_model.specs.World.{Opening, World, opening_world, run}
-use Rattle.protocol_model.specs.Leftovers.{Always}
 use Rattle.named_events.proofs.Grounds.{Base}
 use Rattle.no_dead_end.specs.Weights.{sum_below, when, Weights, may_strike, of_link, of_round, of_current, of_phase, of_node, of_place, total}
-use Rattle.no_dead_end.specs.Work.{is_put, owned_on, live_on, mark_work, put_work, undecided_work, queued_work, change_work, letter_work, work_weights, size, running, may_die}
+use Rattle.no_dead_end.specs.Work.{is_put, owned_on, live_on, mark_work, put_work, undecided_work, queued_work, change_work, letter_work, work_weights, size, may_die}
 use Rattle.no_dead_end.specs.Units.{units_of_op, units_of_current, units_of_node, units_of_letter, all_units, WorkIsBounded}
 use Rattle.no_dead_end.proofs.Sums.{sum-le, sum-term, sum-each, sum-times, when-le}
 use Rattle.no_dead_end.proofs.TableWork.{filter-length}
@@ -22,6 +21,8 @@ use Rattle.no_dead_end.proofs.LetterWork.{joins}
 use Rattle.no_dead_end.proofs.Premises.{one_join}
 use Rattle.no_dead_end.proofs.AdmitsJoined.{known}
 use Rattle.no_dead_end.proofs.Deliveries.{running_few}
+use Rattle.named_events.specs.Worlds.{running}
+use Rattle.named_events.specs.Clauses.{Always}
 
 -- a list counts as much as its items
 all_most : {X : Type 0} (f g : X → ℕ) (k : ℕ) → ((x : X) → f x ≤ g x * k) → (xs : List X) → sum_by f xs ≤ sum_by g xs * k

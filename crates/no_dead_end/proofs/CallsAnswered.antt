@@ -14,7 +14,7 @@ use Rattle.protocol_model.specs.World.{Opening, World, WorldEvent, opening_world
 use Rattle.protocol_model.specs.Course.{Played, answers_of}
 use Rattle.protocol_model.specs.Fit.{Numbered, accepted_at, decided_at}
 use Rattle.protocol_model.specs.Answers.{answer_to, number_of, entered_at, may_have, calls_at, answers_under, AtMostOne, NotYet, Once}
-use Rattle.protocol_model.specs.Leftovers.{Always, Runs}
+use Rattle.protocol_model.specs.Quiet.{Runs}
 use Rattle.named_events.proofs.Indices.{both}
 use Rattle.named_events.proofs.Accounts.{own, owed_by, is_word_at, replies_to}
 use Rattle.named_events.proofs.FittingChains.{Book}
@@ -32,6 +32,7 @@ use Rattle.named_events.proofs.Together.{Whole, whole_opens, run_whole, replicas
 use Rattle.no_dead_end.specs.QuietWorlds.{AtRest, Idle, Refused, Knocks}
 use Rattle.no_dead_end.specs.Answering.{IsDeletion, QuietWorldsAnswer, SettledWorldsAnswer}
 use Rattle.no_dead_end.proofs.QuietWorlds.{call_listed, quiet_worlds_rest}
+use Rattle.named_events.specs.Worlds.{OfNodes}
 
 -- calls that are paired with answers, where there is one
 first_answer : (a : ℕ) (ns : List Numbered) (xs : List Answer) → Paired a ns xs → (n : Numbered) → Contains ns n
@@ -154,11 +155,11 @@ rest_is_free Up w c retried up R = go (w.node c).current refl R
     go x e (Refused op) = absurd (retried c op up e)
     go x e (Knocks k m u j i n) = absurd (refused m u (w.node m).current refl i)
 
-pub quiet_worlds_answer : Always QuietWorldsAnswer
+pub quiet_worlds_answer : OfNodes QuietWorldsAnswer
 quiet_worlds_answer o es Q a k p up D alive =
     deletion_answered o es a k p D (λ c i. (quiet_worlds_rest o es Q).calls a c up i) alive
 
-pub settled_worlds_answer : Always SettledWorldsAnswer
+pub settled_worlds_answer : OfNodes SettledWorldsAnswer
 settled_worlds_answer o es S a n up i =
     let w : World = run o (opening_world o) es in
     let F : ((w.node a).current ≡ Current.Free) × ((w.node a).queue ≡ []) =

@@ -6,17 +6,18 @@ use Rattle.protocol_model.specs.World.{Opening, in_world, World, left, WorldEven
 use Rattle.protocol_model.specs.Delivering.{LetterWaits, IsFirstDelivery}
 use Rattle.protocol_model.specs.Letter.{Letter}
 use Rattle.protocol_model.specs.Links.{is_nil}
-use Rattle.protocol_model.specs.Leftovers.{Always, IsQuiet}
 use Rattle.protocol_model.proofs.Deliveries.{delivers_the_first}
 use Rattle.walk.proofs.Runs.{happens-accepted}
 use Rattle.walk.proofs.Walk.{walked_in_order}
 use Rattle.named_events.proofs.Grounds.{Both, wide, both_event}
 use Rattle.no_dead_end.specs.Weights.{sum_below, when}
-use Rattle.no_dead_end.specs.Work.{size, running, work}
+use Rattle.no_dead_end.specs.Work.{size, work}
 use Rattle.no_dead_end.specs.Deliveries.{DeliveriesLower, SettlesInTime}
 use Rattle.no_dead_end.proofs.Sums.{sum-le, sum-each}
 use Rattle.no_dead_end.proofs.DeliveryWork.{counted, delivery_work}
 use Rattle.no_dead_end.proofs.AdmitsJoined.{AdmitsJoined, keeps, known, Along, along_begins, along_keeps, along_ready}
+use Rattle.named_events.specs.Worlds.{of_nodes, IsQuiet, running}
+use Rattle.named_events.specs.Clauses.{Always}
 
 -- who runs is of the world
 pub running_few : (o : Opening) (w : World) → length (nodes_of o.bound (running o w)) ≤ size o
@@ -69,18 +70,18 @@ module _ (o : Opening) where
       (r, lowers w b F.sender F.receiver r)
 
   -- a `settle` leaves a quiet world
-  pub settles : (most : ℕ) (w : World) → Known w → work o w ≤ most → IsQuiet o (run o w (deliveries_left o most w))
+  pub settles : (most : ℕ) (w : World) → Known w → work o w ≤ most → IsQuiet (of_nodes o) (run o w (deliveries_left o most w))
   settles zero w b l = go (next_delivery o w) refl
     where
-      go : (x : Option WorldEvent) → next_delivery o w ≡ x → IsQuiet o w
+      go : (x : Option WorldEvent) → next_delivery o w ≡ x → IsQuiet (of_nodes o) w
       go None e = (delivers_the_first o w).none.0 e
       go (Some d) e = let h : _ = (next_lowers w d b e).1 in absurd (omega (arith, h, l))
   settles (suc most) w b l = go (next_delivery o w) refl (λ d c k. settles most (happens o w d) c k)
     where
       go : (x : Option WorldEvent) → next_delivery o w ≡ x
           → ((d : WorldEvent) → Known (happens o w d) → work o (happens o w d) ≤ most
-          → IsQuiet o (run o (happens o w d) (deliveries_left o most (happens o w d))))
-          → IsQuiet o (run o w (elim x [ None ↦ [] | Some e ↦ e ∷ deliveries_left o most (happens o w e) ]))
+          → IsQuiet (of_nodes o) (run o (happens o w d) (deliveries_left o most (happens o w d))))
+          → IsQuiet (of_nodes o) (run o w (elim x [ None ↦ [] | Some e ↦ e ∷ deliveries_left o most (happens o w e) ]))
       go None e more = (delivers_the_first o w).none.0 e
       go (Some d) e more =
           let h : (refusal o w d ≡ None) × (work o (happens o w d) < work o w) = next_lowers w d b e in

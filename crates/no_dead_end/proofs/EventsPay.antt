@@ -10,14 +10,13 @@ use Rattle.protocol_model.specs.Node.{Current}
 use Rattle.protocol_model.specs.Event.{Event, Refusal}
 use Rattle.protocol_model.specs.World.{Opening, in_world, in_cluster, World, left, WorldEvent, At, Deliver, opening_world, refusal, accepted, happens, run}
 use Rattle.protocol_model.specs.Fit.{is_delivery}
-use Rattle.protocol_model.specs.Leftovers.{Always}
 use Rattle.named_events.proofs.Indices.{both}
 use Rattle.walk.proofs.Events.{accepted_of}
 use Rattle.walk.proofs.Runs.{happens-accepted}
 use Rattle.walk.proofs.Walk.{OrderedWalk, walked_in_order}
 use Rattle.named_events.proofs.Grounds.{Both, wide, both_event}
 use Rattle.no_dead_end.specs.Weights.{sum_below, Weights, when, may_strike, of_place, total}
-use Rattle.no_dead_end.specs.Work.{size, running, may_die, work_weights, work}
+use Rattle.no_dead_end.specs.Work.{size, may_die, work_weights, work}
 use Rattle.no_dead_end.specs.Payments.{event_pays, pays, paid, delivered, EventsPay}
 use Rattle.no_dead_end.proofs.Sums.{sum-same, sum-zero, when-le}
 use Rattle.no_dead_end.proofs.RuleWork.{Ready}
@@ -25,6 +24,8 @@ use Rattle.no_dead_end.proofs.Deliveries.{running_few, lowers}
 use Rattle.no_dead_end.proofs.AdmitsJoined.{AdmitsJoined, keeps, known, along_begins, along_ready}
 use Rattle.no_dead_end.proofs.TurnWork.{is_leaving}
 use Rattle.no_dead_end.proofs.Payments.{event_pays_work, leave_pays_work}
+use Rattle.named_events.specs.Worlds.{running}
+use Rattle.named_events.specs.Clauses.{Always}
 
 module _ (o : Opening) where
   abbrev Known : World → Type 0

@@ -10,23 +10,23 @@ use Rattle.protocol_model.specs.World.{Opening, in_world, World, left, WorldEven
 use Rattle.walk.proofs.Runs.{happens-accepted}
 use Rattle.walk.proofs.Walk.{walked_in_order}
 use Rattle.named_events.proofs.Grounds.{Both, wide}
-use Rattle.no_dead_end.specs.Work.{running}
 use Rattle.no_dead_end.proofs.Sums.{no_more}
 use Rattle.named_events.proofs.Indices.{both, not_true}
 use Rattle.named_events.specs.NodeNames.{NamedOpening, is_name, name_of, opening_of}
 use Rattle.named_events.specs.NamedWorld.{NamedWorld, NamedEvent, NamedRefusal, present_node, has_started, sender_to, named_refusal, accepted_named, happens_named, run_named, opening_named, after_events, as_events}
 use Rattle.named_events.specs.NamedScript.{named_deliveries, next_named, named_deliveries_left, settled}
-use Rattle.named_events.specs.NamedQuietCalls.{is_named_delivery}
 use Rattle.named_events.specs.Restarts.{IsUp as IsUpNamed}
 use Rattle.named_events.proofs.Numbers.{inside-name}
 use Rattle.named_events.proofs.NamedRuns.{named_runs_are_runs}
 use Rattle.named_events.proofs.Standing.{Sound, present_started, unrefused}
 use Rattle.named_events.proofs.Always.{always, nodes_always_stand}
-use Rattle.no_dead_end.specs.NamedNoDeadEnd.{names_size, up, named_work, AlwaysNamed, NamedDeliveriesLower, NamedWorkIsBounded, LimitsAreWork}
+use Rattle.no_dead_end.specs.NamedNoDeadEnd.{names_size, named_work, AlwaysNamed, NamedDeliveriesLower, NamedWorkIsBounded, LimitsAreWork}
 use Rattle.no_dead_end.proofs.Bounded.{bounded, joins_most}
 use Rattle.no_dead_end.proofs.RuleWork.{Ready}
 use Rattle.no_dead_end.proofs.DeliveryWork.{counted, delivery_work}
 use Rattle.no_dead_end.proofs.AdmitsJoined.{AdmitsJoined, keeps, known, Along, along_begins, along_keeps, along_ready}
+use Rattle.named_events.specs.Worlds.{running}
+use Rattle.named_events.specs.WorldsOfNames.{is_named_delivery, up}
 
 -- where fewer count a node is as ready
 narrower : (o : Opening) (s up : Nodes) (w : World) (a : ℕ) → ((c : ℕ) → up c ≡ true → s c ≡ true) → up a ≡ true → Ready o s w a

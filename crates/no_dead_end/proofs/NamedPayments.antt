@@ -20,7 +20,6 @@ use Rattle.walk.proofs.Walk.{OrderedWalk, walked_in_order}
 use Rattle.named_events.proofs.Grounds.{wide}
 use Rattle.named_events.specs.NodeNames.{NamedOpening, HasNumber, is_name, node_of, name_of, creation_of, opening_of}
 use Rattle.named_events.specs.NamedWorld.{NamedWorld, NamedEvent, NamedRefusal, Plain, present_node, has_started, next_node, named_refusal, refusal_at, plain_refusal, plain, accepted_named, happens_named, run_named, opening_named, after_events}
-use Rattle.named_events.specs.NamedQuietCalls.{is_named_delivery}
 use Rattle.named_events.specs.Restarts.{fresh_node, IsUp, StartsAnew}
 use Rattle.named_events.proofs.Always.{always}
 use Rattle.named_events.proofs.Inside.{IsCurrentIn, IsPhaseIn, IsCallIn, IsInside}
@@ -31,7 +30,7 @@ use Rattle.named_events.proofs.Standing.{Sound, started_to, started_from, unrefu
 use Rattle.no_dead_end.specs.Weights.{sum_below, when, Weights, of_link, of_round, of_current, of_phase, of_node, of_place, total}
 use Rattle.no_dead_end.specs.Work.{may_die, work_weights}
 use Rattle.no_dead_end.specs.Payments.{event_pays}
-use Rattle.no_dead_end.specs.NamedNoDeadEnd.{names_size, up, named_work, AlwaysNamed}
+use Rattle.no_dead_end.specs.NamedNoDeadEnd.{names_size, named_work, AlwaysNamed}
 use Rattle.no_dead_end.specs.NamedPayments.{named_pays, named_paid, named_delivered, NamedEventsPay}
 use Rattle.no_dead_end.proofs.Sums.{sum-same, sum-le, sum-zero, when-le}
 use Rattle.no_dead_end.proofs.DeliveryWork.{total_less}
@@ -39,6 +38,7 @@ use Rattle.no_dead_end.proofs.AdmitsJoined.{along_begins, along_ready}
 use Rattle.no_dead_end.proofs.NamedDeliveries.{counts_up, begun as known, few, named_lowers}
 use Rattle.no_dead_end.proofs.Payments.{event_pays_work, leave_pays_work}
 use Rattle.no_dead_end.proofs.EventsPay.{opens_idle}
+use Rattle.named_events.specs.WorldsOfNames.{is_named_delivery, up}
 
 -- One node n more counts, of which a node knows nothing. S: whom it knows
 module _ (b : ℕ) (W : Weights) (clear : W.mark Out ≡ 0) (S : Nodes) (n : ℕ) (unknown : S n ≡ false) (more up : Nodes)

@@ -6,20 +6,21 @@ use Rattle.protocol_model.specs.Watch.{owed, is_dead}
 use Rattle.protocol_model.specs.Node.{Node, Current, LockPhase, LockCall}
 use Rattle.protocol_model.specs.Event.{is_waiting}
 use Rattle.protocol_model.specs.World.{Opening, World, opening_world, run}
-use Rattle.protocol_model.specs.Leftovers.{Runs}
+use Rattle.protocol_model.specs.Quiet.{Runs}
 use Rattle.protocol_model.proofs.Courses.{run-append}
 use Rattle.named_events.specs.NodeNames.{NamedOpening, opening_of}
 use Rattle.named_events.specs.NamedWorld.{NamedWorld, NamedEvent, has_started, after_events, as_events}
 use Rattle.named_events.specs.Restarts.{IsUp}
-use Rattle.named_events.specs.NamedLeftovers.{NamesAreQuiet}
 use Rattle.named_events.proofs.NamedRuns.{named_runs_are_runs}
 use Rattle.named_events.proofs.LeftOfNames
 use Rattle.no_dead_end.specs.QuietWorlds.{admissions, AtRest, Idle, Refused, Knocks, IsAtRest, QuietWorldsRest}
-use Rattle.no_dead_end.specs.NamedNoDeadEnd.{AlwaysNamed, NamedQuietWorldsRest, NamedQuietWorldsAnswer, NamedSettledWorldsAnswer}
 use Rattle.no_dead_end.proofs.QuietWorlds.{leave_accepted, quiet_worlds_rest}
 use Rattle.no_dead_end.proofs.CallsAnswered.{deletion_answered, call_answered, rest_is_free}
+use Rattle.named_events.specs.Worlds.{of_nodes, IsQuiet}
+use Rattle.named_events.specs.WorldsOfNames.{of_names, OfNames}
+use Rattle.no_dead_end.specs.Answering.{QuietWorldsAnswer, SettledWorldsAnswer}
 
-module _ (o : NamedOpening) (es : List NamedEvent) (q : NamesAreQuiet o es (after_events o es)) where
+module _ (o : NamedOpening) (es : List NamedEvent) (q : IsQuiet (of_names o) (after_events o es)) where
   abbrev O : Opening
   O = opening_of o
 
@@ -31,7 +32,7 @@ module _ (o : NamedOpening) (es : List NamedEvent) (q : NamesAreQuiet o es (afte
   u = LeftOfNames.u o es
 
   there : IsAtRest (Runs O u) O u
-  there = subst (QuietWorldsRest O (LeftOfNames.E o es ++ LeftOfNames.F o es))
+  there = subst (QuietWorldsRest (of_nodes O) (LeftOfNames.E o es ++ LeftOfNames.F o es))
       (run-append O (opening_world O) (LeftOfNames.E o es) (LeftOfNames.F o es)
       ∙ ap (λ (v : World). run O v (LeftOfNames.F o es)) (sym (named_runs_are_runs o es)))
       (quiet_worlds_rest O (LeftOfNames.E o es ++ LeftOfNames.F o es)) (LeftOfNames.quiet o es q)
@@ -75,7 +76,7 @@ module _ (o : NamedOpening) (es : List NamedEvent) (q : NamesAreQuiet o es (afte
     leaves = λ c up. leave_accepted (IsUp o w) O w.world c up.inside up.stays (rests c up);
   }
 
-pub quiet_names_rest : AlwaysNamed NamedQuietWorldsRest
+pub quiet_names_rest : OfNames QuietWorldsRest
 quiet_names_rest o es q = names_rest o es q
 
 -- the world of names is that of its events
@@ -86,13 +87,13 @@ module _ (o : NamedOpening) (es : List NamedEvent) where
   is_run : (after_events o es).world ≡ v
   is_run = named_runs_are_runs o es
 
-  pub deletions : NamedQuietWorldsAnswer o es (after_events o es)
+  pub deletions : QuietWorldsAnswer (of_names o) es (after_events o es)
   deletions q a k p up D alive = deletion_answered (opening_of o) (as_events o es) a k p D
       (subst (λ (x : World). (c : LockCall) → Contains (x.node a).calls c → c.phase ≡ LockPhase.Waiting) is_run
       (λ c i. (names_rest o es q).calls a c up i))
       (subst (λ (x : World). is_dead (x.node a).watch p.serial ≡ false) is_run alive)
 
-  pub numbered : NamedSettledWorldsAnswer o es (after_events o es)
+  pub numbered : SettledWorldsAnswer (of_names o) es (after_events o es)
   numbered S a n up i = call_answered (opening_of o) (as_events o es) a
       (subst (λ (x : World). (x.node a).current ≡ Current.Free) is_run F.0)
       (subst (λ (x : World). (x.node a).queue ≡ []) is_run F.1) n i
@@ -101,8 +102,8 @@ module _ (o : NamedOpening) (es : List NamedEvent) where
       F = rest_is_free (IsUp o (after_events o es)) (after_events o es).world a S.retried up
           ((names_rest o es S.quiet).registrars a up)
 
-pub quiet_names_answer : AlwaysNamed NamedQuietWorldsAnswer
+pub quiet_names_answer : OfNames QuietWorldsAnswer
 quiet_names_answer o es = deletions o es
 
-pub settled_names_answer : AlwaysNamed NamedSettledWorldsAnswer
+pub settled_names_answer : OfNames SettledWorldsAnswer
 settled_names_answer o es = numbered o es

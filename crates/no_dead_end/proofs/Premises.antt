@@ -37,13 +37,14 @@ use Rattle.named_events.proofs.Together
 use Rattle.named_events.proofs.Grounds.{Base}
 use Rattle.named_events.proofs.Owners.{joined_owner}
 use Rattle.no_dead_end.specs.Weights.{when}
-use Rattle.no_dead_end.specs.Work.{owned_on, running}
+use Rattle.no_dead_end.specs.Work.{owned_on}
 use Rattle.no_dead_end.proofs.LetterWork.{joins}
 use Rattle.no_dead_end.proofs.TableWork.{filter-length, count-passing, put_all-count, remove_all-count}
 use Rattle.std.proofs.Math.Nat.{mul-le-mul_right}
 use Rattle.no_dead_end.proofs.HeldStrikes.{always_struck}
 use Rattle.no_dead_end.proofs.RuleWork.{Ready}
 use Rattle.no_dead_end.proofs.AdmitWork.{settle_small}
+use Rattle.named_events.specs.Worlds.{running}
 
 -- a queue without joins, and one with one at most
 pub no_join : (ops : List Op) → has_join ops ≡ false → joins ops ≡ 0

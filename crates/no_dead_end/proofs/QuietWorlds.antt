@@ -8,7 +8,7 @@ use Rattle.registry_model.proofs.Lists.{Contains-cases, Contains-front, Contains
 use Rattle.protocol_model.specs.Node.{Op, Current, LockPhase, LockCall, call_of, is_writing}
 use Rattle.protocol_model.specs.Event.{Event, is_joining, is_waiting}
 use Rattle.protocol_model.specs.World.{Opening, in_world, World, left, At, refusal, opening_world, run}
-use Rattle.protocol_model.specs.Leftovers.{Always, Runs, IsQuiet}
+use Rattle.protocol_model.specs.Quiet.{Runs}
 use Rattle.named_events.proofs.Invariants.{IsUp, IsProperCurrent}
 use Rattle.walk.proofs.Calls.{AllOpen, all_open}
 use Rattle.named_events.proofs.Tokens.{Gate, Away, Knock, Wait, Turned, Entering, is_away}
@@ -18,6 +18,7 @@ use Rattle.named_events.proofs.Families.{Whole, whole}
 use Rattle.named_events.proofs.Quiet.{registrars, calls_wait, rid, at_ease}
 use Rattle.named_events.proofs.Rest.{WorkRests}
 use Rattle.no_dead_end.specs.QuietWorlds.{admits, admissions, AtRest, Idle, Refused, Knocks, QuietWorldsRest}
+use Rattle.named_events.specs.Worlds.{of_nodes, OfNodes, IsQuiet}
 
 -- a call of a list of open calls stands for its process
 pub found_call : (xs cs : List LockCall) (c : LockCall) → AllOpen xs cs → Contains cs c → call_of c.holder xs ≡ Some c
@@ -47,7 +48,7 @@ call_listed p (d ∷ cs) c e = go (is_process d.holder p) e (λ k. call_listed p
     go true k more = let same : d ≡ c = cc k in subst (λ (x : LockCall). Contains (x ∷ cs) c) (sym same) (Contains-front c cs)
     go false k more = Contains-behind d cs c (more k)
 
-module _ (o : Opening) (w : World) (W : Whole o w) (Q : IsQuiet o w) (c : ℕ) (up : IsUp o w c) where
+module _ (o : Opening) (w : World) (W : Whole o w) (Q : IsQuiet (of_nodes o) w) (c : ℕ) (up : IsUp o w c) where
   pub calls : (call : LockCall) → Contains (w.node c).calls call → call.phase ≡ LockPhase.Waiting
   calls call i =
       let found : call_of call.holder (w.node c).calls ≡ Some call =
@@ -146,7 +147,7 @@ module _ (o : Opening) (w : World) (W : Whole o w) (Q : IsQuiet o w) (c : ℕ) (
       go (Current.Writing op s awaited reply) e = absurd (cc (ap (at_ease o w W Q) e, registrars o w W Q c up))
 
 -- so it is of every world that events can reach
-pub quiet_worlds_rest : Always QuietWorldsRest
+pub quiet_worlds_rest : OfNodes QuietWorldsRest
 quiet_worlds_rest o es Q = record {
   registrars = rests o (run o (opening_world o) es) (whole o es) Q;
   calls = λ c call up i. calls o (run o (opening_world o) es) (whole o es) Q c up call i;

@@ -8,11 +8,11 @@ use Rattle.registry_model.specs.Call.{Reply, True}
 use Rattle.protocol_model.specs.Watch.{is_dead}
 use Rattle.protocol_model.specs.Node.{Target}
 use Rattle.protocol_model.specs.Event.{Call}
-use Rattle.protocol_model.specs.World.{Opening, World, WorldEvent, opening_world}
-use Rattle.protocol_model.specs.Course.{Played, answers_of, course}
+use Rattle.protocol_model.specs.World.{World}
+use Rattle.protocol_model.specs.Course.{Played, answers_of}
 use Rattle.protocol_model.specs.Fit.{Numbered, accepted_at}
 use Rattle.protocol_model.specs.Answers.{answer_to, number_of, calls_at}
-use Rattle.protocol_model.specs.Leftovers.{Runs, IsQuiet, IsSettled}
+use Rattle.named_events.specs.Worlds.{Worlds, steps_of, IsQuiet, IsSettled}
 
 -- call k of node a, which it accepted, is a `del_lock` of p
 pub record IsDeletion (ps : List Played) (a k : ℕ) (p : Process) : Type 0 where
@@ -33,11 +33,11 @@ module _ (Up : ℕ → Type 0) (ps : List Played) where
   NameCallsAreAnswered = (a : ℕ) (call : Numbered) → Up a → Contains (accepted_at a ps) call →
       (reply : Reply) × Contains (answers_of ps) (answer_to a (number_of call) reply)
 
-module _ (o : Opening) (es : List WorldEvent) (w : World) where
+module _ (W : Worlds) (es : List W.Event) (w : W.World) where
   -- Once no letter waits each `del_lock` that a running node accepted has been answered, unless its process is dead
   abbrev pub QuietWorldsAnswer : Type 0
-  QuietWorldsAnswer = IsQuiet o w → DeletionsAreAnswered (Runs o w) (course o (opening_world o) es) w
+  QuietWorldsAnswer = IsQuiet W w → DeletionsAreAnswered (W.Runs w) (steps_of W es) (W.nodes w)
 
   -- Once no operation waits for a retry either, each name call and each join has
   abbrev pub SettledWorldsAnswer : Type 0
-  SettledWorldsAnswer = IsSettled o w → NameCallsAreAnswered (Runs o w) (course o (opening_world o) es)
+  SettledWorldsAnswer = IsSettled W w → NameCallsAreAnswered (W.Runs w) (steps_of W es)

@@ -2,7 +2,7 @@
 -- es: the events so far; w: the world that they made; f and t: the nodes of a link.
 use Rattle.std.specs.Prelude.{ℕ, ◌≡◌, ◌<◌, ◌≤◌, None, List}
 use Rattle.protocol_model.specs.World.{Opening, World, WorldEvent, Deliver, refusal, happens, run, deliveries_left}
-use Rattle.protocol_model.specs.Leftovers.{IsQuiet}
+use Rattle.named_events.specs.Worlds.{of_nodes, IsQuiet}
 use Rattle.no_dead_end.specs.Work.{work}
 
 module _ (o : Opening) (es : List WorldEvent) (w : World) where
@@ -12,4 +12,4 @@ module _ (o : Opening) (es : List WorldEvent) (w : World) where
 
   -- A `settle` of as many deliveries as there is work, or more, leaves a quiet world
   abbrev pub SettlesInTime : Type 0
-  SettlesInTime = (most : ℕ) → work o w ≤ most → IsQuiet o (run o w (deliveries_left o most w))
+  SettlesInTime = (most : ℕ) → work o w ≤ most → IsQuiet (of_nodes o) (run o w (deliveries_left o most w))

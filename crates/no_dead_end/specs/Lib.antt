@@ -1,12 +1,15 @@
+pub use Rattle.named_events.specs.Worlds
+pub use Rattle.named_events.specs.Leftovers
+pub use Rattle.named_events.specs.QuietCalls
+pub use Rattle.named_events.specs.ClientLocks
 pub use Rattle.named_events.specs.NodeNames
 pub use Rattle.named_events.specs.NamedWorld
 pub use Rattle.named_events.specs.Restarts
 pub use Rattle.named_events.specs.Lifted
-pub use Rattle.named_events.specs.NamedLeftovers
+pub use Rattle.named_events.specs.WorldsOfNames
 pub use Rattle.named_events.specs.NamedScript
 pub use Rattle.named_events.specs.Settling
 pub use Rattle.named_events.specs.Clauses
-pub use Rattle.named_events.specs.NamedQuietCalls
 pub use Rattle.named_events.specs.JoinNumbers
 pub use Rattle.named_events.specs.NobodyBack
 pub mod Weights

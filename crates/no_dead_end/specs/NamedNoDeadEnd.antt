@@ -1,35 +1,26 @@
--- Deliveries end, and quiet worlds rest, where nodes have names and come back. At most one node of each name runs at once; nodes
+-- Deliveries end where nodes have names and come back, too. At most one node of each name runs at once; nodes
 -- that haven't started are left out of account, with the `Down`s that wait for them.
 -- es: the events so far; w: the world that they made; x and y: names of nodes.
-use Rattle.std.specs.Prelude.{ℕ, not, ◌&&◌, ◌*◌, ◌≡◌, ◌<◌, ◌≤◌, None, length, List}
-use Rattle.registry_model.specs.Process.{Nodes, nodes_of}
-use Rattle.protocol_model.specs.World.{in_world, left}
+use Rattle.std.specs.Prelude.{ℕ, ◌*◌, ◌≡◌, ◌<◌, ◌≤◌, None, length, List}
+use Rattle.registry_model.specs.Process.{nodes_of}
 use Rattle.named_events.specs.NodeNames.{NamedOpening, is_name, opening_of}
-use Rattle.named_events.specs.NamedWorld.{NamedWorld, NamedEvent, Deliver, has_started, named_refusal, happens_named, run_named, after_events}
+use Rattle.named_events.specs.NamedWorld.{NamedWorld, NamedEvent, Deliver, named_refusal, happens_named, run_named, after_events}
 use Rattle.named_events.specs.NamedScript.{SettleLimit, next_named, named_deliveries_left, settled}
-use Rattle.named_events.specs.Restarts.{IsUp}
-use Rattle.named_events.specs.NamedLeftovers.{NamesAreQuiet, NamesAreSettled}
-use Rattle.named_events.specs.Lifted.{events_played}
+use Rattle.named_events.specs.WorldsOfNames.{up}
 use Rattle.no_dead_end.specs.Weights.{total}
 use Rattle.no_dead_end.specs.Work.{work_weights, may_die}
 use Rattle.no_dead_end.specs.Units.{all_units}
-use Rattle.no_dead_end.specs.QuietWorlds.{IsAtRest}
-use Rattle.no_dead_end.specs.Answering.{DeletionsAreAnswered, NameCallsAreAnswered}
 
 module _ (o : NamedOpening) where
   -- how many names there are
   abbrev pub names_size : ℕ
   names_size = length (nodes_of o.bound (is_name o))
 
-  -- the nodes that run
-  abbrev pub up : NamedWorld → Nodes
-  up w c = in_world (opening_of o) c && has_started o w c && not (left w.world c)
-
   abbrev pub named_work : NamedWorld → ℕ
-  named_work w = total (opening_of o).bound (work_weights names_size (may_die w.world)) (up w) w.world
+  named_work w = total (opening_of o).bound (work_weights names_size (may_die w.world)) (up o w) w.world
 
   abbrev pub named_units : NamedWorld → ℕ
-  named_units w = all_units (opening_of o).bound (up w) w.world
+  named_units w = all_units (opening_of o).bound (up o w) w.world
 
 module _ (o : NamedOpening) (es : List NamedEvent) (w : NamedWorld) where
   -- Each delivery by names lowers the work, and a `settle` of as many as there is work, or more, leaves nothing to deliver
@@ -46,18 +37,6 @@ module _ (o : NamedOpening) (es : List NamedEvent) (w : NamedWorld) where
   abbrev pub LimitsAreWork : Type 0
   LimitsAreWork = (limit : ℕ) → settled o (next_named o (run_named o w (named_deliveries_left o limit w))) ≡ SettleLimit →
       limit < named_work o w
-
-  -- A quiet world rests
-  abbrev pub NamedQuietWorldsRest : Type 0
-  NamedQuietWorldsRest = NamesAreQuiet o es w → IsAtRest (IsUp o w) (opening_of o) w.world
-
-  -- Once no letter waits each `del_lock` has been answered, unless its process is dead
-  abbrev pub NamedQuietWorldsAnswer : Type 0
-  NamedQuietWorldsAnswer = NamesAreQuiet o es w → DeletionsAreAnswered (IsUp o w) (events_played o es) w.world
-
-  -- Once no operation waits for a retry either, each name call and each join has
-  abbrev pub NamedSettledWorldsAnswer : Type 0
-  NamedSettledWorldsAnswer = NamesAreSettled o es w → NameCallsAreAnswered (IsUp o w) (events_played o es)
 
 -- It is so behind all events
 abbrev pub AlwaysNamed : ((o : NamedOpening) → List NamedEvent → NamedWorld → Type 0) → Type 0

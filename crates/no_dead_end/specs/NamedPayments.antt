@@ -3,7 +3,7 @@
 use Rattle.std.specs.Prelude.{ℕ, ◌&&◌, ◌+◌, ◌≤◌, is_none, List, [], ◌∷◌}
 use Rattle.named_events.specs.NodeNames.{NamedOpening}
 use Rattle.named_events.specs.NamedWorld.{NamedWorld, NamedEvent, At, AtNode, present_node, named_refusal, happens_named, run_named, opening_named}
-use Rattle.named_events.specs.NamedQuietCalls.{is_named_delivery}
+use Rattle.named_events.specs.WorldsOfNames.{is_named_delivery}
 use Rattle.no_dead_end.specs.Weights.{when}
 use Rattle.no_dead_end.specs.Payments.{event_pays}
 use Rattle.no_dead_end.specs.NamedNoDeadEnd.{names_size, named_work}

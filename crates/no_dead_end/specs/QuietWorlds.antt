@@ -3,8 +3,8 @@ use Rattle.std.specs.Prelude.{ℕ, Bool, true, false, ◌==◌, ◌+◌, ◌≡�
 use Rattle.protocol_model.specs.Watch.{owed}
 use Rattle.protocol_model.specs.Node.{Node, Op, Current, LockPhase, LockCall}
 use Rattle.protocol_model.specs.Event.{Event, is_waiting}
-use Rattle.protocol_model.specs.World.{Opening, World, WorldEvent, At, refusal}
-use Rattle.protocol_model.specs.Leftovers.{Runs, IsQuiet}
+use Rattle.protocol_model.specs.World.{Opening, World, At, refusal}
+use Rattle.named_events.specs.Worlds.{Worlds, IsQuiet}
 
 -- the operation is the admission of j
 abbrev pub admits : ℕ → Op → Bool
@@ -32,7 +32,7 @@ pub record IsAtRest (Up : ℕ → Type 0) (o : Opening) (w : World) : Type 0 whe
   -- no leave is refused
   pub leaves : (c : ℕ) → Up c → refusal o w (At c Event.Leave) ≡ None
 
-module _ (o : Opening) (es : List WorldEvent) (w : World) where
+module _ (W : Worlds) (es : List W.Event) (w : W.World) where
   -- A quiet world rests
   abbrev pub QuietWorldsRest : Type 0
-  QuietWorldsRest = IsQuiet o w → IsAtRest (Runs o w) o w
+  QuietWorldsRest = IsQuiet W w → IsAtRest (W.Runs w) W.opening (W.nodes w)

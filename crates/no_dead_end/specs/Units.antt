@@ -7,7 +7,8 @@ use Rattle.protocol_model.specs.Letter.{Letter}
 use Rattle.protocol_model.specs.Node.{Node, Op, Current}
 use Rattle.protocol_model.specs.World.{Opening, World, WorldEvent}
 use Rattle.no_dead_end.specs.Weights.{sum_below, when}
-use Rattle.no_dead_end.specs.Work.{size, running, work}
+use Rattle.named_events.specs.Worlds.{running}
+use Rattle.no_dead_end.specs.Work.{size, work}
 
 -- an operation, with the names that it brings
 abbrev pub units_of_op : Op → ℕ

@@ -1,14 +1,15 @@
 -- The work of a world: about as many letters as are still sent in it if nobody calls or retries. Each delivery lowers it.
 -- n: as many nodes as count, or more. f and c: nodes, f the sender and c the receiver of a letter. alive: who may still be killed.
 use Rattle.std.specs.Prelude.{ℕ, Bool, true, false, not, ◌&&◌, ◌==◌, ◌+◌, ◌*◌, filter, length, List, if◌then◌else◌}
-use Rattle.registry_model.specs.Process.{Process, Nodes, nodes_of}
+use Rattle.registry_model.specs.Process.{Process, nodes_of}
 use Rattle.registry_model.specs.Table.{Table, Change, Put}
 use Rattle.registry_model.specs.Call.{NameCall, Unregister}
 use Rattle.protocol_model.specs.Round.{Mark, Out, Later}
 use Rattle.protocol_model.specs.Letter.{Letter}
 use Rattle.protocol_model.specs.Node.{Op}
-use Rattle.protocol_model.specs.World.{Opening, in_world, World, left}
+use Rattle.protocol_model.specs.World.{Opening, in_world, World}
 use Rattle.protocol_model.specs.ClientLocks.{is_no_more}
+use Rattle.named_events.specs.Worlds.{running}
 use Rattle.no_dead_end.specs.Weights.{when, Weights, total}
 
 -- whether the call gives a name to a process
@@ -89,10 +90,6 @@ module _ (n : ℕ) (alive : Process → Bool) where
 -- how many nodes a world has
 abbrev pub size : Opening → ℕ
 size o = length (nodes_of o.bound (in_world o))
-
--- its nodes that haven't left
-abbrev pub running : Opening → World → Nodes
-running o w c = in_world o c && not (left w c)
 
 -- a process that may still be killed
 abbrev pub may_die : World → Process → Bool

@@ -2,14 +2,16 @@
 //! Each law is the contract of a function with an empty body.
 #![tactic(auto)]
 
-ghost use Rattle.protocol_model.specs.Leftovers.{Always};
 ghost use Rattle.no_dead_end.specs.Deliveries.{DeliveriesLower, SettlesInTime};
 ghost use Rattle.no_dead_end.specs.Payments.{EventsPay};
 ghost use Rattle.no_dead_end.specs.Units.{WorkIsBounded};
 ghost use Rattle.no_dead_end.specs.QuietWorlds.{QuietWorldsRest};
 ghost use Rattle.no_dead_end.specs.Answering.{QuietWorldsAnswer, SettledWorldsAnswer};
-ghost use Rattle.no_dead_end.specs.NamedNoDeadEnd.{AlwaysNamed, NamedDeliveriesLower, NamedWorkIsBounded, LimitsAreWork, NamedQuietWorldsRest, NamedQuietWorldsAnswer, NamedSettledWorldsAnswer};
+ghost use Rattle.no_dead_end.specs.NamedNoDeadEnd.{AlwaysNamed, NamedDeliveriesLower, NamedWorkIsBounded, LimitsAreWork};
 ghost use Rattle.no_dead_end.specs.NamedPayments.{NamedEventsPay};
+ghost use Rattle.named_events.specs.Worlds.{OfNodes};
+ghost use Rattle.named_events.specs.Clauses.{Always};
+ghost use Rattle.named_events.specs.WorldsOfNames.{OfNames};
 
 /// Each delivery lowers the work that a world has still to do.
 pub fn deliveries_lower()
@@ -34,17 +36,17 @@ pub fn work_is_bounded()
 /// Where no letter waits each running registrar is free with nothing to do, or was refused and waits for a retry, or waits for a
 /// contact that does, with its admission; each lock call waits for a retry; no leave is refused.
 pub fn quiet_worlds_rest()
-    ensures { Always QuietWorldsRest }
+    ensures { OfNodes QuietWorldsRest }
 {}
 
 /// And each `del_lock` that a running node accepted is answered there, unless its process is dead.
 pub fn quiet_worlds_answer()
-    ensures { Always QuietWorldsAnswer }
+    ensures { OfNodes QuietWorldsAnswer }
 {}
 
 /// Where no operation waits for a retry either, so is each name call and each join.
 pub fn settled_worlds_answer()
-    ensures { Always SettledWorldsAnswer }
+    ensures { OfNodes SettledWorldsAnswer }
 {}
 
 /// Of worlds of names, whose nodes leave and come back: each delivery lowers a work in which at most one node of each name counts,
@@ -70,15 +72,15 @@ pub fn limits_are_work()
 
 /// A quiet world of names rests as any does.
 pub fn quiet_names_rest()
-    ensures { AlwaysNamed NamedQuietWorldsRest }
+    ensures { OfNames QuietWorldsRest }
 {}
 
 /// It has answered each `del_lock` of a running node, unless its process is dead.
 pub fn quiet_names_answer()
-    ensures { AlwaysNamed NamedQuietWorldsAnswer }
+    ensures { OfNames QuietWorldsAnswer }
 {}
 
 /// And a settled one each name call and each join.
 pub fn settled_names_answer()
-    ensures { AlwaysNamed NamedSettledWorldsAnswer }
+    ensures { OfNames SettledWorldsAnswer }
 {}

@@ -1,7 +1,6 @@
 -- What ending a cluster comes to, whether its steps were kept or not.
 use Rattle.std.specs.Prelude.{ℕ, true, All, ◌≡◌, ◌+◌, ◌++◌, List, [], ◌∷◌, map, length, Result, Ok, Err}
 use Rattle.registry_model.specs.Table.{Table}
-use Rattle.protocol_model.specs.Leftovers.{NothingIsLeft}
 use Rattle.protocol_model.specs.World.{Opening}
 use Rattle.closing_runs.specs.Merging.{Step, events_in, world_behind}
 use Rattle.closing_runs.specs.Laws.{HasARun}
@@ -17,6 +16,8 @@ use Rattle.node_threads.specs.declared.ending.EndFault.TheVariants.{LeftInHold, 
 use Rattle.node_threads.specs.Wires.{Wired}
 use Rattle.node_threads.specs.Ended.{owner, FailsAlone, EndsInOrder}
 use Rattle.node_threads.specs.Closing.{GivesBack}
+use Rattle.replay.specs.Worlds.{of_nodes}
+use Rattle.replay.specs.LeftoversOfWorlds.{NothingIsLeft}
 
 -- how many steps these ends tell of
 abbrev pub steps_in : List End → ℕ
@@ -27,7 +28,7 @@ steps_in (e ∷ es) = length e.log.entries + steps_in es
 pub record HoldsBehind (o : Opening) (ss : List Step) : Type 0 where
   pub headline : HeadlineAfter o (events_in ss) (world_behind o ss)
   pub locks : LocksAfter o (events_in ss) (world_behind o ss)
-  pub leaves_nothing : NothingIsLeft o (events_in ss) (world_behind o ss)
+  pub leaves_nothing : NothingIsLeft (of_nodes o) (events_in ss) (world_behind o ss)
 
 -- A world that opens with these lists has a run of so many steps, those of these ends' logs, merged, and behind it the tables of the ends
 pub record RanOut (cluster lone : List ℕ) (ends : List End) (events : ℕ) : Type 0 where

@@ -10,7 +10,7 @@ use Rattle.protocol_model.specs.Links.{is_nil}
 use Rattle.protocol_model.specs.Letter.{Letter}
 use Rattle.protocol_model.specs.Event.{Answer, Refusal}
 use Rattle.protocol_model.specs.World.{Opening, in_world, World, left, WorldEvent, Deliver, refusal, happens, run, all_answers, next_delivery, deliveries_left}
-use Rattle.protocol_model.specs.Leftovers.{IsQuiet}
+use Rattle.protocol_model.specs.Quiet.{IsQuiet}
 use Rattle.protocol_model.specs.Script.{Line, Output, Said, Settled, settled, printed}
 use Rattle.protocol_model.specs.Delivering.{LetterWaits, IsFirstDelivery, DeliversTheFirst}
 

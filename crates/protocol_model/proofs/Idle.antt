@@ -8,7 +8,7 @@ use Rattle.protocol_model.specs.Letter.{Letter}
 use Rattle.protocol_model.specs.Node.{Node, Current, LockPhase, LockCall}
 use Rattle.protocol_model.specs.Event.{Event, Refusal, EmptyLink, NothingToRetry, is_waiting, is_waiting_call, can_retry}
 use Rattle.protocol_model.specs.World.{Opening, in_world, World, left, At, Deliver, refusal}
-use Rattle.protocol_model.specs.Leftovers.{Runs}
+use Rattle.protocol_model.specs.Quiet.{Runs}
 use Rattle.protocol_model.specs.Idle.{NothingWaits, RefusesTheIdle}
 
 -- no lock call waits

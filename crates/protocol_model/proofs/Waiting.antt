@@ -18,7 +18,7 @@ use Rattle.protocol_model.specs.Client.{is_spent, one_less, try_lock, end_lock_b
 use Rattle.protocol_model.specs.Calling.{die, kill, call, event}
 use Rattle.protocol_model.specs.Reading.{refused_join, welcome, told_of, lose_join, lose_current, bereave, read, receive}
 use Rattle.protocol_model.specs.World.{Opening, in_world, World, WorldEvent, At, Deliver, place, join_number, heard, refusal, turn_of, accepted}
-use Rattle.protocol_model.specs.Leftovers.{WaitsBehindARound}
+use Rattle.protocol_model.specs.Quiet.{WaitsBehindARound}
 
 -- the operation waits there, or has a round there
 abbrev Had : Current → Op → Type 0

@@ -7,7 +7,7 @@ use Rattle.protocol_model.specs.Letter.{Id, Client, is_id}
 use Rattle.protocol_model.specs.Watch.{is_dead}
 use Rattle.protocol_model.specs.Node.{Target, call_of, targets}
 use Rattle.protocol_model.specs.Event.{Call, Event, Answer, is_waiting_call}
-use Rattle.protocol_model.specs.World.{Opening, in_world, World, left, WorldEvent, At, opening_world, refusal, happens, answers, run}
+use Rattle.protocol_model.specs.World.{Opening, in_world, World, left, WorldEvent, At, opening_world, refusal, happens, answers}
 
 -- a try of a `set_lock`: the number and the id of the call, whom it names, and the nodes that this try has to ask
 pub record Try : Type 0 where
@@ -102,7 +102,3 @@ Holds o es p id c = 0 < holds_count o es p id c
 abbrev pub ExclusionAfter : Opening → List WorldEvent → World → Type 0
 ExclusionAfter o es w = (c : ℕ) → in_world o c ≡ true → left w c ≡ false → (p q : Process) (resource x y : Text) →
     Holds o es p (Client resource x) c → Holds o es q (Client resource y) c → x ≡ y
-
--- so it is behind every list of events
-abbrev pub Exclusion : Type 0
-Exclusion = (o : Opening) (es : List WorldEvent) → ExclusionAfter o es (run o (opening_world o) es)

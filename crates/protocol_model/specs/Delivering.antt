@@ -2,7 +2,7 @@
 use mathlib.Core.Logic.{◌⊎◌}
 use Rattle.std.specs.Prelude.{ℕ, true, ◌≡◌, ◌<◌, ◌≤◌, ◌↔◌, Contains, Some, None, length, List, [], ◌∷◌, ◌++◌}
 use Rattle.protocol_model.specs.World.{Opening, in_world, World, WorldEvent, Deliver, run, next_delivery, deliveries_left}
-use Rattle.protocol_model.specs.Leftovers.{Runs, IsQuiet}
+use Rattle.protocol_model.specs.Quiet.{Runs, IsQuiet}
 use Rattle.protocol_model.specs.Script.{Line, Output, printed}
 
 -- a letter from a node of the world, f, to a running node, t, waits on their link

@@ -9,8 +9,8 @@ use Rattle.registry_model.specs.History.{Entry, Standing, is_free, is_holding, o
 use Rattle.registry_model.specs.HistoryLaws.{decided_by}
 use Rattle.registry_model.specs.Legal.{IsLegal}
 use Rattle.protocol_model.specs.Event.{Call, Event, Answer, HoldsLock}
-use Rattle.protocol_model.specs.World.{Opening, in_cluster, WorldEvent, At, opening_world, run}
-use Rattle.protocol_model.specs.Course.{Played, Seen, entries_of, course, seen}
+use Rattle.protocol_model.specs.World.{Opening, in_cluster, At}
+use Rattle.protocol_model.specs.Course.{Played, Seen, entries_of}
 pub use Rattle.protocol_model.specs.Course.{standing, IsRunning}
 use Rattle.protocol_model.specs.Fit.{IsPrefix, IsMadeIn, Fits}
 use Rattle.protocol_model.specs.Answers.{answer_to, answers_at, entered_at, is_unnumbered, AnswersInTime, LooksUpOnce, IsNextProcess, AnswersCalls, JoinerIsAnswered}
@@ -86,8 +86,3 @@ pub record Headline (o : Opening) (ps : List Played) (now : Seen) : Type 0 where
   pub refusals : SaysWhy o ps now
   -- the holder is the node of the operation that holds in the cluster
   pub holder : now.holder ≡ option_map (λ h. h.node) (standing o ps).held
-
--- The headline for every list of events; those that the world refuses change nothing
-abbrev pub Agreement : Type 0
-Agreement = (o : Opening) (es : List WorldEvent) →
-    Headline o (course o (opening_world o) es) (seen o (run o (opening_world o) es))

@@ -3,7 +3,7 @@ use Rattle.std.specs.Prelude.{ℕ, true, ◌≡◌, ◌↔◌, Contains, Some, [
 use Rattle.protocol_model.specs.Node.{Node, Op, Current, LockPhase, LockCall}
 use Rattle.protocol_model.specs.Event.{Event, EmptyLink, NothingToRetry}
 use Rattle.protocol_model.specs.World.{Opening, in_world, World, At, Deliver, refusal}
-use Rattle.protocol_model.specs.Leftovers.{Runs}
+use Rattle.protocol_model.specs.Quiet.{Runs}
 
 -- neither an operation of the node's registrar waits for a retry nor a lock call
 pub record NothingWaits (v : Node) : Type 0 where

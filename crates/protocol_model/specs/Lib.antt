@@ -19,8 +19,7 @@ pub mod Answers
 pub mod Refusals
 pub mod Headline
 pub mod ClientLocks
-pub mod Leftovers
-pub mod QuietCalls
+pub mod Quiet
 pub mod Script
 pub mod Delivering
 pub mod Idle

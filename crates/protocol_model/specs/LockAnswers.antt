@@ -11,11 +11,9 @@ use Rattle.protocol_model.specs.LockTable.{count, is_free_for}
 use Rattle.protocol_model.specs.Node.{Retries, Times, targets}
 use Rattle.protocol_model.specs.Event.{Call, Event, Answer}
 use Rattle.protocol_model.specs.World.{Opening, in_world, World, left, WorldEvent, At, Deliver, opening_world, refusal, happens, answers, run}
-use Rattle.protocol_model.specs.Course.{course, standing, seen}
+use Rattle.protocol_model.specs.Course.{course, seen}
 use Rattle.protocol_model.specs.Answers.{holder_in, calls_at, answers_under}
-use Rattle.protocol_model.specs.ClientLocks.{Try, try_of, waits_for_retry, is_no_more, holds_count, ExclusionAfter}
-use Rattle.protocol_model.specs.Leftovers.{IsQuiet}
-use Rattle.protocol_model.specs.QuietCalls.{QuietCallsAreTold, QuietCallsAreAnswered}
+use Rattle.protocol_model.specs.ClientLocks.{Try, try_of, waits_for_retry, is_no_more, holds_count}
 
 -- the last `set_lock` of a process: its last try, the retries that it was given, how often it was tried, and whether that try met
 -- something for which it may fail
@@ -199,27 +197,6 @@ pub record WaitsForRetry (o : Opening) (es : List WorldEvent) (w : World) (p : P
   pub failed : tries.met ≡ true
   pub more : AreUsedUp tries → ⊥
   pub retry : is_no_more w p ≡ false → (seen o w).refusal (At p.node Event.Retry) ≡ None
-
--- Who waits for a retry and who is no more, which tries and numbers read of the world w, is as it is seen
-pub record ReadsTheSeen (o : Opening) (es : List WorldEvent) (w : World) : Type 0 where
-  -- of a process that waits for a retry
-  pub refused : (p : Process) → waits_for_retry w p ≡ true → WaitsForRetry o es w p
-  -- in a quiet world a process that is still there waits for a retry, unless its last `set_lock` is answered
-  pub waits : (p : Process) (t : Tries) → IsQuiet o w → is_no_more w p ≡ false → tries_of o es p ≡ Some t →
-      answers_under p.node t.last.number (course o (opening_world o) es) ≡ [] → waits_for_retry w p ≡ true
-  -- a process is no more where its node has left, by the history, or shows that it is dead
-  pub gone : (p : Process) →
-      is_no_more w p ≡ ((standing o (course o (opening_world o) es)).registry.left p.node || (seen o w).dead p)
-
--- Clients' locks behind the events es, of which the world is w: they exclude each other, they are counted by what is seen, and so
--- is answered in the step of each event that the world would accept now; where it is quiet, a `set_lock` with no retries is answered
--- as the lock is free
-pub record ClientLocks (o : Opening) (es : List WorldEvent) (w : World) : Type 0 where
-  pub exclusion : ExclusionAfter o es w
-  pub reads : ReadsTheSeen o es w
-  pub answers : (e : WorldEvent) → refusal o w e ≡ None → LockAnswers o es w e
-  pub quiet : QuietCallsAreTold o es w
-  pub answered : QuietCallsAreAnswered o es w
 
 -- whatever the opening, the events and the accepted one behind them
 abbrev pub AtEachStep : (Opening → List WorldEvent → World → WorldEvent → Type 0) → Type 0

@@ -3,7 +3,7 @@ ghost use Rattle.std.specs.Prelude.{◌≡◌, ◌-◌, ◌^◌, codes};
 ghost use Rattle.registry_model.specs.Process.{text_of};
 ghost use Rattle.protocol_model.specs.Delivering.{DeliversTheFirst};
 ghost use Rattle.protocol_model.specs.Idle.{RefusesTheIdle};
-ghost use Rattle.protocol_model.specs.Leftovers.{WaitsBehindARound};
+ghost use Rattle.protocol_model.specs.Quiet.{WaitsBehindARound};
 ghost use Rattle.protocol_model.specs.LockTable.{last_count};
 ghost use Rattle.protocol_model.specs.Event.{last_u32, global_resource};
 ghost use Rattle.protocol_model.specs.SharedLaws.{ComparesIds, AsksMembers, GrantsTheFree, TellsTheEmpty, TellsItsPlaces, TellsItsNodes, OpensEmpty};

@@ -1,3 +1,6 @@
+pub use Rattle.cluster_world.specs.Worlds
+pub use Rattle.cluster_world.specs.WorldsOfNames
+pub use Rattle.cluster_world.specs.LeftoversOfWorlds
 pub use Rattle.cluster_world.specs.Agreeing
 pub use Rattle.cluster_world.specs.Locks
 pub use Rattle.node_log.specs.Entries

@@ -3,7 +3,6 @@ use Rattle.std.specs.Prelude.{ℕ, false, ◌≡◌, None, List, [], ◌∷◌, 
 use Rattle.protocol_model.specs.World.{place}
 use Rattle.cluster_world.specs.NodeNames.{NamedOpening}
 use Rattle.cluster_world.specs.NamedWorld.{NamedWorld, opening_named, named_refusal, happens_named, named_answers, run_named, as_events}
-use Rattle.cluster_world.specs.NamedLeftovers.{NothingIsLeftOfNames}
 use Rattle.node_log.specs.Events.{event_of}
 use Rattle.node_log.specs.NodeEventsSeen.{answer_of}
 use Rattle.node_log.specs.Entries.{Logged}
@@ -13,6 +12,8 @@ use Rattle.cluster_world.specs.Agreeing.{AgreesAfter}
 use Rattle.cluster_world.specs.Locks.{LocksAfter}
 use Rattle.replay.specs.Steps.{Step, happening, events_in, steps_of, is_restart}
 use Rattle.replay.specs.Merging.{IsNext, RisesBehind}
+use Rattle.cluster_world.specs.LeftoversOfWorlds.{NothingIsLeft}
+use Rattle.cluster_world.specs.WorldsOfNames.{of_names}
 
 -- The world takes the step: its event is one of its own node, it is accepted, and it is answered just as the log has it. Nodes that run
 -- are never restarted, so a log with a restart is none of theirs
@@ -33,7 +34,7 @@ pub record IsRun (ss : List Step) (h : Held) : Type 0 where
   pub takes : TakesAll (names_of h) (opening_named (names_of h)) ss
   pub agrees : AgreesAfter (events_in ss) h
   pub locks : LocksAfter (opening_of h) (as_events (names_of h) (events_in ss)) (seen h)
-  pub leaves_nothing : NothingIsLeftOfNames (names_of h) (events_in ss) (named h)
+  pub leaves_nothing : NothingIsLeft (of_names (names_of h)) (events_in ss) (named h)
 
 -- what a world that opened so is behind these steps
 abbrev pub world_behind : NamedOpening → List Step → NamedWorld

@@ -21,9 +21,8 @@ use Rattle.protocol_model.specs.Course.{Played, played, answers_of}
 use Rattle.protocol_model.specs.Fit.{is_delivery}
 use Rattle.protocol_model.specs.Answers.{answer_to, may_have, calls_at, answers_under, AtMostOne, NotYet, Once}
 use Rattle.protocol_model.specs.Refusals.{HasOpenCall}
-use Rattle.protocol_model.specs.Leftovers.{IsQuiet, world}
 use Rattle.getting_through.proofs.Unanswered.{kept_in}
-use Rattle.getting_through.specs.Clauses.{events}
+use Rattle.getting_through.specs.Clauses.{events, world}
 use Rattle.getting_through.proofs.Answered.{calls_answered}
 use Rattle.getting_through.proofs.Exiting.{dead_event}
 use Rattle.getting_through.proofs.OpenCalls.{Stands, Gone, Answered, Waits}
@@ -40,9 +39,10 @@ use Rattle.getting_through.proofs.RetriesUsed.{uses_all_retries}
 use Rattle.getting_through.proofs.Spending.{AreLeft}
 use Rattle.waiting_lock_calls.specs.Retried.{asks, IsItsLast, AsksNobody as NobodyIsAsked, HasNoneLeft}
 use Rattle.waiting_lock_calls.proofs.Tried.{AreTries, next_tries, found, home, more, last_left}
+use Rattle.getting_through.specs.Worlds.{of_nodes, IsQuiet}
 
 module _ (o : Opening) (es : List WorldEvent) (a : ℕ) (c : LockCall) (listed : Contains ((world o es).node a).calls c)
-    (Q : IsQuiet o (world o es)) (h : refusal o (world o es) (At a Event.Retry) ≡ None) where
+    (Q : IsQuiet (of_nodes o) (world o es)) (h : refusal o (world o es) (At a Event.Retry) ≡ None) where
   abbrev p : Process
   p = c.holder
 

@@ -7,7 +7,7 @@ use Rattle.protocol_model.specs.Links.{is_nil}
 use Rattle.protocol_model.specs.Turn.{sent_to}
 use Rattle.protocol_model.specs.Event.{Event}
 use Rattle.protocol_model.specs.World.{Opening, World, left, WorldEvent, At, place, other, turn_of, refusal, accepted, happens}
-use Rattle.protocol_model.specs.Leftovers.{Runs}
+use Rattle.protocol_model.specs.Quiet.{Runs}
 use Rattle.getting_through.proofs.Indices.{not_true}
 use Rattle.walk.proofs.Runs.{happens-accepted}
 use Rattle.getting_through.specs.NodeNames.{NamedOpening, name_of, creation_of, node_of, first_nodes, opening_of}
@@ -16,10 +16,10 @@ use Rattle.getting_through.specs.Restarts.{IsUp}
 use Rattle.getting_through.proofs.Numbers.{node-number}
 use Rattle.getting_through.proofs.Standing.{Sound, started_to}
 use Rattle.getting_through.proofs.StartedLists.{in_first}
-use Rattle.getting_through.specs.GettingThrough.{is_delivery_or_retry}
-use Rattle.getting_through.specs.NamedGettingFree.{is_named_delivery_or_retry}
 use Rattle.waiting_lock_calls.proofs.OpenCalls.{none_leaves}
 use Rattle.waiting_lock_calls.proofs.WhyHeld.{found_in}
+use Rattle.getting_through.specs.Worlds.{is_delivery_or_retry}
+use Rattle.getting_through.specs.WorldsOfNames.{is_named_delivery_or_retry}
 
 -- no letter of a node that has left waits for one that runs
 abbrev pub Silent : Opening → World → Type 0

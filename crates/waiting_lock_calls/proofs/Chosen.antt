@@ -20,7 +20,6 @@ use Rattle.protocol_model.specs.World.{Opening, in_world, World, left, WorldEven
 use Rattle.protocol_model.specs.Course.{answers_of}
 use Rattle.protocol_model.specs.Fit.{is_delivery}
 use Rattle.protocol_model.specs.Answers.{answer_to}
-use Rattle.protocol_model.specs.Leftovers.{IsQuiet, world}
 use Rattle.protocol_model.proofs.Ids.{is_id_self}
 use Rattle.protocol_model.proofs.Meanings.{grants_the_free}
 use Rattle.getting_through.proofs.Indices.{both, not_true, not_false, some_of, greatest_in}
@@ -34,7 +33,7 @@ use Rattle.walk.proofs.Chains.{LeaveLocks, TakeGone, is_gone_by}
 use Rattle.walk.proofs.Runs.{happens-accepted}
 use Rattle.walk.proofs.Walk.{OrderedWalk}
 use Rattle.getting_through.proofs.Locking.{IsNamed, call_of-client}
-use Rattle.getting_through.specs.Clauses.{events}
+use Rattle.getting_through.specs.Clauses.{events, world}
 use Rattle.getting_through.proofs.Tied.{run-push}
 use Rattle.getting_through.proofs.Calls.{home_of_call, holder_of_call}
 use Rattle.getting_through.proofs.Clients.{call_at}
@@ -64,6 +63,7 @@ use Rattle.waiting_lock_calls.proofs.Front.{is_bad, is_own, is_in_front, none_ow
 use Rattle.waiting_lock_calls.proofs.Rivals.{Fits, IsAsked, IsRoundOf, RoundIn, IsOrdered, IsApt, ordered_keeps}
 use Rattle.waiting_lock_calls.proofs.RivalsFirst.{ordered_first}
 use Rattle.waiting_lock_calls.proofs.Standing.{counted, its_round, same_id, rests, has_lock, owes_none, not_idle}
+use Rattle.getting_through.specs.Worlds.{of_nodes, IsQuiet}
 
 -- each of these events is accepted in its turn, between nodes that run
 abbrev pub AreSound : Opening → World → List WorldEvent → Type 0
@@ -71,7 +71,7 @@ AreSound o v [] = Unit {0}
 AreSound o v (d ∷ ds) = (refusal o v d ≡ None) × IsUp o v (place d) × IsUp o v (other d) × AreSound o (happens o v d) ds
 
 module _ (o : Opening) (es : List WorldEvent) (a : ℕ) (c : LockCall) (listed : Contains ((world o es).node a).calls c)
-    (Q : IsQuiet o (world o es)) (h : refusal o (world o es) (At a Event.Retry) ≡ None)
+    (Q : IsQuiet (of_nodes o) (world o es)) (h : refusal o (world o es) (At a Event.Retry) ≡ None)
     (S : IsSure o es a c listed Q h)
     (none_before : (d : LockCall) → IsRival (world o es) a c d → comes_before o (world o es) a d c ≡ true → ⊥) where
   abbrev w : World

@@ -20,14 +20,14 @@ use Rattle.protocol_model.specs.Course.{answers_of, course}
 use Rattle.protocol_model.specs.Fit.{is_delivery}
 use Rattle.protocol_model.specs.Answers.{answer_to, answers_under}
 use Rattle.protocol_model.specs.Refusals.{HasOpenCall}
-use Rattle.protocol_model.specs.Leftovers.{Always, Runs, IsQuiet, IsSettled, world}
+use Rattle.protocol_model.specs.Quiet.{Runs}
 use Rattle.protocol_model.proofs.Courses.{run-append}
 use Rattle.protocol_model.proofs.Finding.{found_any}
 use Rattle.getting_through.proofs.Indices.{both}
 use Rattle.getting_through.proofs.Invariants.{IsUp}
 use Rattle.walk.proofs.Runs.{happens-accepted}
 use Rattle.getting_through.proofs.Unanswered.{kept_in}
-use Rattle.getting_through.specs.Clauses.{events}
+use Rattle.getting_through.specs.Clauses.{events, world}
 use Rattle.getting_through.proofs.Tied.{run-push}
 use Rattle.getting_through.proofs.HeadlineUnanswered.{open_waits, waits_open}
 use Rattle.getting_through.proofs.Base.{not_both}
@@ -40,7 +40,6 @@ use Rattle.getting_through.proofs.CallTurns.{anew_in, anew}
 use Rattle.getting_through.proofs.EventTurns.{AgainTurn, again_turn}
 use Rattle.getting_through.specs.Answering.{NameCallsAreAnswered}
 use Rattle.getting_through.proofs.QuietWorlds.{calls, call_listed, quiet_worlds_rest}
-use Rattle.getting_through.specs.GettingThrough.{is_delivery_or_retry}
 use Rattle.getting_through.specs.GettingFree.{LeadsOn as GetFree}
 use Rattle.getting_through.proofs.Freeing.{registrars_get_free}
 use Rattle.waiting_lock_calls.specs.Retried.{asks}
@@ -50,6 +49,7 @@ use Rattle.waiting_lock_calls.proofs.Tried.{behind, found, home, there, phase}
 use Rattle.waiting_lock_calls.proofs.Chosen.{AreSound, wins_or_dies}
 use Rattle.waiting_lock_calls.proofs.OpenCalls.{open_calls, Was, IsLater, later, no_more, fewer}
 use Rattle.waiting_lock_calls.proofs.WhyHeld.{IsReady, IsClearOf, all_held}
+use Rattle.getting_through.specs.Worlds.{of_nodes, OfNodes, IsQuiet, IsSettled, is_delivery_or_retry}
 
 -- deliveries are deliveries or retries
 delivered : (ds : List WorldEvent) → list_all is_delivery ds ≡ true → list_all is_delivery_or_retry ds ≡ true
@@ -72,7 +72,7 @@ module _ (o : Opening) where
   below x h = ltb-true x o.bound (both (nat_lt x o.bound) (o.nodes x) h).0
 
   -- a call that is ready is over behind some deliveries and a retry
-  module _ (es : List WorldEvent) (Q : IsQuiet o (world o es)) (a : ℕ) (up : IsUp o (world o es) a)
+  module _ (es : List WorldEvent) (Q : IsQuiet (of_nodes o) (world o es)) (a : ℕ) (up : IsUp o (world o es) a)
       (R : IsReady o es Q a up) where
     abbrev w : World
     w = world o es
@@ -200,7 +200,7 @@ module _ (o : Opening) where
 
   -- all nodes below n: one has a call that is ready, or all calls are held up
   -- S: which of them
-  module _ (S : Nodes) (es : List WorldEvent) (Q : IsQuiet o (world o es)) where
+  module _ (S : Nodes) (es : List WorldEvent) (Q : IsQuiet (of_nodes o) (world o es)) where
     abbrev pub SomeReady : Type 0
     SomeReady = (a : ℕ) × (S a ≡ true) × (up : IsUp o (world o es) a) × IsReady o es Q a up
 
@@ -239,27 +239,27 @@ module _ (o : Opening) where
 
   -- events behind which nothing waits but what is held up
   abbrev Finished : List WorldEvent → Type 0
-  Finished es = (fs : List WorldEvent) × (list_all is_delivery_or_retry fs ≡ true) × IsFinished o (es ++ fs) (world o (es ++ fs))
+  Finished es = (fs : List WorldEvent) × (list_all is_delivery_or_retry fs ≡ true) × IsFinished (of_nodes o) (es ++ fs) (world o (es ++ fs))
 
   joined : (es fs : List WorldEvent) → list_all is_delivery_or_retry fs ≡ true → Finished (es ++ fs) → Finished es
   joined es fs k F = (
     fs ++ F.0,
     list_all-append is_delivery_or_retry fs F.0 ∙ ap (λ (b : Bool). b && list_all is_delivery_or_retry F.0) k ∙ F.1,
-    subst (λ (ys : List WorldEvent). IsFinished o ys (world o ys)) (append_assoc es fs F.0) F.2,
+    subst (λ (ys : List WorldEvent). IsFinished (of_nodes o) ys (world o ys)) (append_assoc es fs F.0) F.2,
   )
 
   -- in a settled world
-  module _ (es fs : List WorldEvent) (G : GetFree o es (world o es) fs) where
+  module _ (es fs : List WorldEvent) (G : GetFree (of_nodes o) es (world o es) fs) where
     abbrev ys : List WorldEvent
     ys = es ++ fs
 
     same : world o (es ++ fs) ≡ run o (world o es) fs
     same = run-append o (opening_world o) es fs
 
-    settled : IsSettled o (world o (es ++ fs))
-    settled = subst (IsSettled o) (sym same) G.settled
+    settled : IsSettled (of_nodes o) (world o (es ++ fs))
+    settled = subst (IsSettled (of_nodes o)) (sym same) G.settled
 
-    all_finished : AllHeld every (es ++ fs) (settled).quiet o.bound → IsFinished o (es ++ fs) (world o (es ++ fs))
+    all_finished : AllHeld every (es ++ fs) (settled).quiet o.bound → IsFinished (of_nodes o) (es ++ fs) (world o (es ++ fs))
     all_finished held = record {
       settled = settled;
       free = λ x up. subst (λ (v : World). Runs o v x → (v.node x).current ≡ Current.Free) (sym same) (G.free x) up;
@@ -290,7 +290,7 @@ module _ (o : Opening) where
       → open_calls o (world o es) ≤ n → Finished es
   finish_by n more es l = go (registrars_get_free o es)
     where
-      go : (fs : List WorldEvent) × GetFree o es (world o es) fs → Finished es
+      go : (fs : List WorldEvent) × GetFree (of_nodes o) es (world o es) fs → Finished es
       go (fs, G) = joined es fs G.kinds (elim (nodes_held every (es ++ fs) (settled es fs G).quiet o.bound) [
         | inl R ↦
             let M : open_calls o (world o (es ++ fs)) ≤ open_calls o (world o es) = no_more o es (es ++ fs) (later o es fs G.kinds) in
@@ -301,24 +301,24 @@ module _ (o : Opening) where
         | inr held ↦ ended es fs G held
       ])
         where
-          ended : (es fs : List WorldEvent) (G : GetFree o es (world o es) fs) → AllHeld every (es ++ fs) (settled es fs G).quiet o.bound
+          ended : (es fs : List WorldEvent) (G : GetFree (of_nodes o) es (world o es) fs) → AllHeld every (es ++ fs) (settled es fs G).quiet o.bound
               → Finished (es ++ fs)
           ended es fs G held = (
             [],
             refl,
-            subst (λ (zs : List WorldEvent). IsFinished o zs (world o zs)) (sym (append-nil (es ++ fs))) (all_finished es fs G held),
+            subst (λ (zs : List WorldEvent). IsFinished (of_nodes o) zs (world o zs)) (sym (append-nil (es ++ fs))) (all_finished es fs G held),
           )
 
   finish : (n : ℕ) (es : List WorldEvent) → open_calls o (world o es) ≤ n → Finished es
   finish zero es l = finish_by zero (λ xs k. absurd (omega (arith, k))) es l
   finish (suc m) es l = finish_by (suc m) (λ xs k. finish m xs (omega (arith, k))) es l
 
-pub no_dead_end : Always NoDeadEnd
+pub no_dead_end : OfNodes NoDeadEnd
 no_dead_end o es = (
   F.0,
   record {
     kinds = F.1;
-    finished = subst (IsFinished o (es ++ F.0)) (run-append o (opening_world o) es F.0) F.2;
+    finished = subst (IsFinished (of_nodes o) (es ++ F.0)) (run-append o (opening_world o) es F.0) F.2;
   },
 )
   where

@@ -21,11 +21,10 @@ use Rattle.protocol_model.specs.Course.{Played, answers_of, course}
 use Rattle.protocol_model.specs.Fit.{is_delivery}
 use Rattle.protocol_model.specs.Answers.{answer_to, answers_under}
 use Rattle.protocol_model.specs.Refusals.{HasOpenCall}
-use Rattle.protocol_model.specs.Leftovers.{Always, IsQuiet, world}
 use Rattle.protocol_model.proofs.Courses.{run-append}
 use Rattle.getting_through.proofs.Invariants.{IsUp}
 use Rattle.getting_through.proofs.Unanswered.{kept_in}
-use Rattle.getting_through.specs.Clauses.{events}
+use Rattle.getting_through.specs.Clauses.{events, world}
 use Rattle.getting_through.proofs.HeadlineUnanswered.{open_waits}
 use Rattle.getting_through.proofs.Base.{not_both}
 use Rattle.getting_through.proofs.Calls.{holder_of_call}
@@ -53,9 +52,10 @@ use Rattle.waiting_lock_calls.proofs.Tried.{along, AreTries, first, next_tries, 
 use Rattle.waiting_lock_calls.proofs.Becoming.{Stage, Died, Succeeded, GaveUp, Open, goes_on, each_delivery}
 use Rattle.waiting_lock_calls.proofs.Unrivalled.{is_clear, IsClear, clear_first, clear_next}
 use Rattle.waiting_lock_calls.proofs.Winning.{IsSure, free_at_first, IsOnItsWay, first_on_its_way, next_on_its_way, unmet_first, unmet_next, stays_on_its_way, somebody}
+use Rattle.getting_through.specs.Worlds.{of_nodes, OfNodes, IsQuiet}
 
 module _ (o : Opening) (es : List WorldEvent) (a : ℕ) (c : LockCall) (listed : Contains ((world o es).node a).calls c)
-    (ds : List WorldEvent) (A : IsAlone o (world o es) (At a Event.Retry) ds) where
+    (ds : List WorldEvent) (A : IsAlone (of_nodes o) (world o es) (At a Event.Retry) ds) where
   abbrev w : World
   w = world o es
 
@@ -137,8 +137,8 @@ module _ (o : Opening) (es : List WorldEvent) (a : ℕ) (c : LockCall) (listed :
   same : world o last ≡ v
   same = run-append o (opening_world o) es fs
 
-  quiet : IsQuiet o (world o last)
-  quiet = subst (IsQuiet o) (sym same) A.behind
+  quiet : IsQuiet (of_nodes o) (world o last)
+  quiet = subst (IsQuiet (of_nodes o)) (sym same) A.behind
 
   -- an answer is one of these steps, since the call wasn't answered before
   answered : (reply : Reply) → Contains (answers_of (events o last)) (answer_to a c.number reply)
@@ -229,9 +229,9 @@ module _ (o : Opening) (es : List WorldEvent) (a : ℕ) (c : LockCall) (listed :
       go (Open d d_found d_number clear) = absurd (not_both at_last.0.tries.met (met d d_found d_number runs_at_last)
           ((clear S S).unmet at_last.0.tries at_last.0.last))
 
-pub retries_are_told : Always RetriesAreTold
+pub retries_are_told : OfNodes RetriesAreTold
 retries_are_told o es a c ds listed A = becomes o es a c listed ds A
 
-pub free_calls_win : Always FreeCallsWin
+pub free_calls_win : OfNodes FreeCallsWin
 free_calls_win o es a c r z ds listed i F none A = wins o es a c listed ds A
     (record { resource = r; requester = z; id = i; free = F }, none)

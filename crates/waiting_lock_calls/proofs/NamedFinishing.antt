@@ -18,14 +18,12 @@ use Rattle.protocol_model.specs.Node.{Node, Current, LockCall, call_of, targets}
 use Rattle.protocol_model.specs.Event.{Event, NoSuchNode, NodeLeft, EmptyLink, cause, first_cause}
 use Rattle.protocol_model.specs.World.{Opening, in_world, World, left, WorldEvent, At, opening_world, place, other, refusal, happens, run}
 use Rattle.protocol_model.specs.Refusals.{HasOpenCall}
-use Rattle.protocol_model.specs.Leftovers.{IsQuiet, world}
 use Rattle.protocol_model.proofs.Courses.{run-append}
 use Rattle.getting_through.proofs.Indices.{both}
 use Rattle.getting_through.proofs.Invariants.{IsUp as Runs}
 use Rattle.getting_through.specs.NodeNames.{NamedOpening, opening_of}
 use Rattle.getting_through.specs.NamedWorld.{NamedWorld, NamedEvent, has_started, plain_events, happens_named, run_named, opening_named, after_events}
 use Rattle.getting_through.specs.Restarts.{IsUp}
-use Rattle.getting_through.specs.NamedLeftovers.{NamesAreQuiet, NamesAreSettled}
 use Rattle.getting_through.specs.Lifted.{events_played}
 use Rattle.getting_through.proofs.Alike.{Alike, same_refusal, run_alike}
 use Rattle.getting_through.proofs.Always.{happens_keeps}
@@ -36,25 +34,24 @@ use Rattle.getting_through.proofs.Standing.{Sound, least_started}
 use Rattle.getting_through.proofs.HeadlineUnanswered.{waits_open}
 use Rattle.getting_through.proofs.Calls.{holder_of_call}
 use Rattle.getting_through.specs.Answering.{NameCallsAreAnswered}
-use Rattle.getting_through.specs.NamedNoDeadEnd.{AlwaysNamed}
 use Rattle.getting_through.specs.Weights.{sum_below, when}
-use Rattle.getting_through.specs.Work.{running}
 use Rattle.getting_through.proofs.NamedQuiet.{quiet_names_rest}
 use Rattle.getting_through.proofs.QuietWorlds.{call_listed}
 use Rattle.getting_through.proofs.Sums.{sum-le}
-use Rattle.getting_through.specs.GettingThrough.{is_delivery_or_retry}
-use Rattle.getting_through.specs.NamedGettingFree.{is_named_delivery_or_retry, NamesLeadOn as NamesGetFree}
 use Rattle.getting_through.proofs.NamedStorms
 use Rattle.getting_through.proofs.NamedStorms.{one_started}
 use Rattle.getting_through.proofs.NamedFinishing.{names_get_free}
 use Rattle.waiting_lock_calls.specs.Retried.{asks, IsRival}
 use Rattle.waiting_lock_calls.specs.HeldUp.{comes_before, HeldUp, Taken, Full, Behind}
-use Rattle.waiting_lock_calls.specs.NoDeadEnd.{IsHeldUpAt}
-use Rattle.waiting_lock_calls.specs.NamedNoDeadEnd.{NamesAreFinished, NamedNoDeadEnd}
+use Rattle.waiting_lock_calls.specs.NoDeadEnd.{IsHeldUpAt, IsFinished, NoDeadEnd}
 use Rattle.waiting_lock_calls.proofs.ByNames.{Silent, silent_next, IsByName, by_name}
 use Rattle.waiting_lock_calls.proofs.Chosen.{AreSound}
 use Rattle.waiting_lock_calls.proofs.Finishing.{is_of, Less, ready_ends, opened, SomeReady, AllHeld, nodes_held}
 use Rattle.waiting_lock_calls.proofs.OpenCalls.{sum_less, IsLater, later, at_each, less_at}
+use Rattle.getting_through.specs.Worlds.{of_nodes, IsQuiet, IsSettled, running, is_delivery_or_retry}
+use Rattle.getting_through.specs.Clauses.{world}
+use Rattle.getting_through.specs.GettingFree.{LeadsOn as GetFree}
+use Rattle.getting_through.specs.WorldsOfNames.{of_names, OfNames, is_named_delivery_or_retry}
 
 -- a letter waits where one is delivered
 some_waits : (b c n : Bool) → first_cause (cause b NoSuchNode ∷ cause c NodeLeft ∷ cause n EmptyLink ∷ []) ≡ None → n ≡ false
@@ -235,9 +232,9 @@ module _ (o : NamedOpening) (es : List NamedEvent) where
         (subst (λ (n : ℕ). open_at o (world (O o) (X ++ P)) a < n) (there_at a e) (less_at (O o) X (X ++ P) L a up p c there gone)))))
 
   -- in a quiet world of names
-  module _ (q : NamesAreQuiet o es w) where
-    Q : IsQuiet (O o) (world (O o) X)
-    Q = subst (IsQuiet (O o)) u_is (LeftOfNames.quiet o es q)
+  module _ (q : IsQuiet (of_names o) w) where
+    Q : IsQuiet (of_nodes (O o)) (world (O o) X)
+    Q = subst (IsQuiet (of_nodes (O o))) u_is (LeftOfNames.quiet o es q)
 
     silent : Silent (O o) u
     silent g t gone runs = LeftOfNames.quiet o es q g t
@@ -285,7 +282,7 @@ module _ (o : NamedOpening) (es : List NamedEvent) where
       held c (Behind d e R b h) = Behind d e (same_rival (world (O o) X) w.world a same d e R) (sym (before e d) ∙ b) (held e h)
 
   -- behind them the world is finished, if all are held up
-  module _ (t : NamesAreSettled o es w) where
+  module _ (t : IsSettled (of_names o) w) where
     locks : AllHeld (O o) S X (Q t.quiet) (O o).bound → (a : ℕ) (p : Process) → IsUp o w a → (C : HasOpenCall (events_played o es) a p)
         → (is_dead (w.world.node a).watch p.serial ≡ true) ⊎ IsHeldUpAt (O o) E w.world a p C.number
     locks all a p up C = go (is_dead (w.world.node a).watch p.serial) refl
@@ -316,24 +313,24 @@ module _ (o : NamedOpening) (es : List NamedEvent) where
 module _ (o : NamedOpening) where
   abbrev Finished : List NamedEvent → Type 0
   Finished es = (fs : List NamedEvent) × (list_all is_named_delivery_or_retry fs ≡ true)
-      × NamesAreFinished o (es ++ fs) (after_events o (es ++ fs))
+      × IsFinished (of_names o) (es ++ fs) (after_events o (es ++ fs))
 
   joined : (es fs : List NamedEvent) → list_all is_named_delivery_or_retry fs ≡ true → Finished (es ++ fs) → Finished es
   joined es fs k F = (
     fs ++ F.0,
     list_all-append is_named_delivery_or_retry fs F.0 ∙ ap (λ (b : Bool). b && list_all is_named_delivery_or_retry F.0) k ∙ F.1,
-    subst (λ (ys : List NamedEvent). NamesAreFinished o ys (after_events o ys)) (append_assoc es fs F.0) F.2,
+    subst (λ (ys : List NamedEvent). IsFinished (of_names o) ys (after_events o ys)) (append_assoc es fs F.0) F.2,
   )
 
   at_later : (es fs : List NamedEvent) → after_events o (es ++ fs) ≡ run_named o (after_events o es) fs
   at_later es fs = fold-append (happens_named o) (opening_named o) es fs
 
-  module _ (es fs : List NamedEvent) (G : NamesGetFree o es (after_events o es) fs) where
-    settled : NamesAreSettled o (es ++ fs) (after_events o (es ++ fs))
-    settled = subst (NamesAreSettled o (es ++ fs)) (sym (at_later es fs)) G.settled
+  module _ (es fs : List NamedEvent) (G : GetFree (of_names o) es (after_events o es) fs) where
+    settled : IsSettled (of_names o) (after_events o (es ++ fs))
+    settled = subst (IsSettled (of_names o)) (sym (at_later es fs)) G.settled
 
     ended : AllHeld (O o) (has_started o (after_events o (es ++ fs))) (X o (es ++ fs)) (Q o (es ++ fs) settled.quiet) (O o).bound
-        → NamesAreFinished o (es ++ fs) (after_events o (es ++ fs))
+        → IsFinished (of_names o) (es ++ fs) (after_events o (es ++ fs))
     ended held = record {
       settled = settled;
       free = λ c up. subst (λ (v : NamedWorld). IsUp o v c → (v.world.node c).current ≡ Current.Free) (sym (at_later es fs)) (G.free c) up;
@@ -347,7 +344,7 @@ module _ (o : NamedOpening) where
       → named_calls o (after_events o es) ≤ n → Finished es
   finish_by n more es l = go (names_get_free o es)
     where
-      go : (fs : List NamedEvent) × NamesGetFree o es (after_events o es) fs → Finished es
+      go : (fs : List NamedEvent) × GetFree (of_names o) es (after_events o es) fs → Finished es
       go (fs, G) = joined es fs G.kinds (elim (nodes_held (O o) (has_started o (after_events o (es ++ fs))) (X o (es ++ fs))
           (Q o (es ++ fs) (settled es fs G).quiet) (O o).bound) [
             | inl R ↦
@@ -364,7 +361,7 @@ module _ (o : NamedOpening) where
             | inr held ↦ (
               [],
               refl,
-              subst (λ (zs : List NamedEvent). NamesAreFinished o zs (after_events o zs)) (sym (append-nil (es ++ fs)))
+              subst (λ (zs : List NamedEvent). IsFinished (of_names o) zs (after_events o zs)) (sym (append-nil (es ++ fs)))
                   (ended es fs G held),
             )
           ])
@@ -373,12 +370,12 @@ module _ (o : NamedOpening) where
   finish zero es l = finish_by zero (λ xs k. absurd (omega (arith, k))) es l
   finish (suc m) es l = finish_by (suc m) (λ xs k. finish m xs (omega (arith, k))) es l
 
-pub no_dead_end_of_names : AlwaysNamed NamedNoDeadEnd
+pub no_dead_end_of_names : OfNames NoDeadEnd
 no_dead_end_of_names o es = (
   F.0,
   record {
     kinds = F.1;
-    finished = subst (NamesAreFinished o (es ++ F.0)) (at_later o es F.0) F.2;
+    finished = subst (IsFinished (of_names o) (es ++ F.0)) (at_later o es F.0) F.2;
   },
 )
   where

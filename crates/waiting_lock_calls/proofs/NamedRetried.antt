@@ -15,24 +15,22 @@ use Rattle.protocol_model.specs.Event.{Event, Answer, NoSuchNode}
 use Rattle.protocol_model.specs.World.{Opening, World, WorldEvent, At, refusal, run, all_answers}
 use Rattle.protocol_model.specs.Course.{answers_of, course}
 use Rattle.protocol_model.specs.Answers.{answer_to}
-use Rattle.protocol_model.specs.QuietCalls.{IsFree}
-use Rattle.protocol_model.specs.Leftovers.{IsQuiet, world}
 use Rattle.protocol_model.proofs.Courses.{course_answers}
 use Rattle.getting_through.specs.NodeNames.{NamedOpening, opening_of}
 use Rattle.getting_through.specs.NamedWorld.{NamedWorld, NamedEvent, NamedRefusal, Plain, has_started, plain_refusal, plain, plain_events, happens_named, run_named, as_events}
-use Rattle.getting_through.specs.NamedQuietCalls.{is_named_delivery}
 use Rattle.getting_through.proofs.Alike.{AreWithin, same_refusal, run_alike}
 use Rattle.getting_through.proofs.LeftOfNames
 use Rattle.getting_through.proofs.QuietNames.{plain_deliveries}
 use Rattle.getting_through.proofs.Standing.{least_started, unrefused}
-use Rattle.getting_through.specs.NamedNoDeadEnd.{AlwaysNamed}
 use Rattle.getting_through.specs.GettingThrough.{IsAlone}
-use Rattle.getting_through.specs.NamedGettingFree.{is_named_delivery_or_retry}
 use Rattle.getting_through.proofs.NamedStorms
-use Rattle.waiting_lock_calls.specs.Retried.{asks, IsRival, IsItsLast, AsksNobody, HasNoneLeft, HasBecome, Won, Dropped, Failed, WaitsOn}
-use Rattle.waiting_lock_calls.specs.NamedRetried.{IsRetriedAlone, retried_steps, NamedRetriesAreTold, NamedFreeCallsWin}
+use Rattle.waiting_lock_calls.specs.Retried.{asks, IsRival, IsItsLast, AsksNobody, HasNoneLeft, HasBecome, Won, Dropped, Failed, WaitsOn, retried_steps, RetriesAreTold, FreeCallsWin}
 use Rattle.waiting_lock_calls.proofs.Laws.{retries_are_told, free_calls_win}
 use Rattle.waiting_lock_calls.proofs.NamedFinishing.{X, u_is, same_rival}
+use Rattle.getting_through.specs.Worlds.{of_nodes, IsQuiet}
+use Rattle.getting_through.specs.Clauses.{world}
+use Rattle.getting_through.specs.QuietCalls.{IsFree}
+use Rattle.getting_through.specs.WorldsOfNames.{of_names, OfNames, is_named_delivery, is_named_delivery_or_retry}
 
 -- deliveries by names are deliveries or retries
 delivered : (ds : List NamedEvent) → list_all is_named_delivery ds ≡ true → list_all is_named_delivery_or_retry ds ≡ true
@@ -43,7 +41,7 @@ delivered (NamedEvent.At x e ∷ ds) k = cc k
 delivered (NamedEvent.Restart x ∷ ds) k = cc k
 
 module _ (o : NamedOpening) (es : List NamedEvent) (a : ℕ) (c : LockCall) (ds : List NamedEvent)
-    (listed : Contains ((LeftOfNames.w o es).world.node a).calls c) (R : IsRetriedAlone o es (LeftOfNames.w o es) a ds) where
+    (listed : Contains ((LeftOfNames.w o es).world.node a).calls c) (R : IsAlone (of_names o) (LeftOfNames.w o es) (NamedEvent.AtNode a Event.Retry) ds) where
   abbrev O : Opening
   O = opening_of o
 
@@ -82,13 +80,13 @@ module _ (o : NamedOpening) (es : List NamedEvent) (a : ℕ) (c : LockCall) (ds 
   there : run O u (plain_events o w (retry ∷ ds)) ≡ run O (world O (X o es)) (At a Event.Retry ∷ D)
   there = ap (run O u) plain_is ∙ ap (λ (y : World). run O y (At a Event.Retry ∷ D)) (u_is o es)
 
-  alone : IsAlone O (world O (X o es)) (At a Event.Retry) D
+  alone : IsAlone (of_nodes O) (world O (X o es)) (At a Event.Retry) D
   alone = record {
-    before = subst (IsQuiet O) (u_is o es) (LeftOfNames.quiet o es R.before);
+    before = subst (IsQuiet (of_nodes O)) (u_is o es) (LeftOfNames.quiet o es R.before);
     accepted = ap (λ (y : World). refusal O y (At a Event.Retry)) (sym (u_is o es))
         ∙ same_refusal O S w.world u (NamedStorms.alike o es) (At a Event.Retry) fits.0 ∙ fits.1;
     delivered = plain_deliveries o ds (happens_named o w retry) R.delivered;
-    behind = subst (IsQuiet O) there (NamedStorms.quiet_there o es (retry ∷ ds) kinds R.behind);
+    behind = subst (IsQuiet (of_nodes O)) there (NamedStorms.quiet_there o es (retry ∷ ds) kinds R.behind);
   }
 
   same : (world O (X o es)).node a ≡ w.world.node a
@@ -100,7 +98,7 @@ module _ (o : NamedOpening) (es : List NamedEvent) (a : ℕ) (c : LockCall) (ds 
   within : AreWithin O S (At a Event.Retry ∷ D)
   within = subst (AreWithin O S) plain_is (NamedStorms.fit o es (retry ∷ ds) kinds).0.0
 
-  same_answers : answers_of (course O (world O (X o es)) (At a Event.Retry ∷ D)) ≡ answers_of (retried_steps o es w a ds)
+  same_answers : answers_of (course O (world O (X o es)) (At a Event.Retry ∷ D)) ≡ answers_of (retried_steps (of_names o) es w a ds)
   same_answers = course_answers O (world O (X o es)) (At a Event.Retry ∷ D)
       ∙ ap (λ (y : World). all_answers O y (At a Event.Retry ∷ D)) (sym (u_is o es))
       ∙ (run_alike O S (At a Event.Retry ∷ D) (least_started o w (LeftOfNames.s o es)) within w.world u (LeftOfNames.s o es).apart
@@ -111,7 +109,7 @@ module _ (o : NamedOpening) (es : List NamedEvent) (a : ℕ) (c : LockCall) (ds 
   listed_there = subst (λ (b : Node). Contains b.calls c) (sym same) listed
 
   answered : (reply : Reply) → Contains (answers_of (course O (world O (X o es)) (At a Event.Retry ∷ D))) (answer_to a c.number reply)
-      → Contains (answers_of (retried_steps o es w a ds)) (answer_to a c.number reply)
+      → Contains (answers_of (retried_steps (of_names o) es w a ds)) (answer_to a c.number reply)
   answered reply i = subst (λ (ss : List Answer). Contains ss (answer_to a c.number reply)) same_answers i
 
   dead : is_dead ((run O (world O (X o es)) (At a Event.Retry ∷ D)).node a).watch c.holder.serial ≡ true
@@ -126,18 +124,18 @@ module _ (o : NamedOpening) (es : List NamedEvent) (a : ℕ) (c : LockCall) (ds 
   last (HasNoneLeft e) = HasNoneLeft e
 
   become : HasBecome (world O (X o es)) (run O (world O (X o es)) (At a Event.Retry ∷ D)) a c
-      (course O (world O (X o es)) (At a Event.Retry ∷ D)) → HasBecome w.world v.world a c (retried_steps o es w a ds)
+      (course O (world O (X o es)) (At a Event.Retry ∷ D)) → HasBecome w.world v.world a c (retried_steps (of_names o) es w a ds)
   become (Won i) = Won (answered True i)
   become (Dropped e) = Dropped (dead e)
   become (Failed i l) = Failed (answered Reply.False i) (last l)
   become (WaitsOn i) = WaitsOn (subst (λ (b : Node). Contains b.calls (record c { retries = one_less c.retries })) same_later i)
 
-  told : HasBecome w.world v.world a c (retried_steps o es w a ds)
+  told : HasBecome w.world v.world a c (retried_steps (of_names o) es w a ds)
   told = become (retries_are_told O (X o es) a c D listed_there alone)
 
   wins : (r z : Text) → c.id ≡ Client r z → IsFree O (as_events o es) c.holder r z (asks w.world a c)
       → ((d : LockCall) → IsRival w.world a c d → ⊥)
-      → Contains (answers_of (retried_steps o es w a ds)) (answer_to a c.number True)
+      → Contains (answers_of (retried_steps (of_names o) es w a ds)) (answer_to a c.number True)
       ⊎ (is_dead (v.world.node a).watch c.holder.serial ≡ true)
   wins r z id F none = elim (free_calls_win O (X o es) a c r z D listed_there id free
       (λ d K. none d (same_rival (world O (X o es)) w.world a same c d K)) alone) [
@@ -152,8 +150,8 @@ module _ (o : NamedOpening) (es : List NamedEvent) (a : ℕ) (c : LockCall) (ds 
         room = λ x i. subst (λ (k : ℕ). k < last_count) (sym (LeftOfNames.counts o es c.holder (Client r z) x)) (F.room x i);
       })
 
-pub retries_of_names_are_told : AlwaysNamed NamedRetriesAreTold
+pub retries_of_names_are_told : OfNames RetriesAreTold
 retries_of_names_are_told o es a c ds listed R = told o es a c ds listed R
 
-pub free_calls_of_names_win : AlwaysNamed NamedFreeCallsWin
+pub free_calls_of_names_win : OfNames FreeCallsWin
 free_calls_of_names_win o es a c r z ds listed id F none R = wins o es a c ds listed R r z id F none

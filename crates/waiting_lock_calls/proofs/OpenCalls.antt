@@ -10,7 +10,6 @@ use Rattle.protocol_model.specs.Node.{LockPhase, LockCall, call_of, drop_call, t
 use Rattle.protocol_model.specs.Client.{in_phase, is_spent}
 use Rattle.protocol_model.specs.Event.{Event, Refusal}
 use Rattle.protocol_model.specs.World.{Opening, in_world, World, left, WorldEvent, At, Deliver, opening_world, refusal, accepted, happens}
-use Rattle.protocol_model.specs.Leftovers.{world}
 use Rattle.getting_through.proofs.Invariants.{IsUp}
 use Rattle.getting_through.proofs.Rules
 use Rattle.getting_through.proofs.Rules.{Rule, May, Ordered, is_ordered}
@@ -32,10 +31,10 @@ use Rattle.getting_through.proofs.CallTurns.{some_unless, anew_in, anew}
 use Rattle.getting_through.proofs.EventTurns.{AgainTurn, again_turn}
 use Rattle.getting_through.proofs.Verdicts.{kept_in}
 use Rattle.getting_through.specs.Weights.{sum_below, when}
-use Rattle.getting_through.specs.Work.{running}
 use Rattle.getting_through.proofs.Sums.{sum-le}
-use Rattle.getting_through.specs.GettingThrough.{is_delivery_or_retry}
 use Rattle.waiting_lock_calls.proofs.Tried.{along}
+use Rattle.getting_through.specs.Worlds.{running, is_delivery_or_retry}
+use Rattle.getting_through.specs.Clauses.{world}
 
 -- Lists of calls
 without_less : (p : Process) (cs : List LockCall) → length (drop_call p cs) ≤ length cs

@@ -21,7 +21,6 @@ use Rattle.protocol_model.specs.Registrar.{registrar, ask_join, contact_left, st
 use Rattle.protocol_model.specs.Client.{in_phase, one_less, close_call, ask_lock, try_lock, retry_in, retry_locks}
 use Rattle.protocol_model.specs.Event.{Event}
 use Rattle.protocol_model.specs.World.{Opening, World, At, turn_of, refusal, accepted}
-use Rattle.protocol_model.specs.Leftovers.{IsQuiet}
 use Rattle.protocol_model.proofs.Ids.{is_id_self}
 use Rattle.getting_through.proofs.Indices.{both, not_true, not_false, some_of, greatest_in}
 use Rattle.getting_through.proofs.Invariants.{Each, IsUp}
@@ -45,6 +44,7 @@ use Rattle.waiting_lock_calls.proofs.Asked.{AsksBoss, Begins, Begun, retry_begun
 use Rattle.waiting_lock_calls.proofs.Unrivalled.{is_clear}
 use Rattle.waiting_lock_calls.proofs.Front.{is_bad, is_own, is_in_front, none_bad, none_own, front_none_bad, front_append}
 use Rattle.waiting_lock_calls.proofs.Rivals.{Fits, HasRound, RoundIn, IsOrdered}
+use Rattle.getting_through.specs.Worlds.{of_nodes, IsQuiet}
 
 -- no node of a set is above its greatest
 greatest_most : (n : ℕ) (s : Nodes) (x : ℕ) → x < n → s x ≡ true → x ≤ greatest n s
@@ -182,7 +182,7 @@ module _ (o : Opening) (w : World) (a : ℕ) (c : LockCall) (r z : Text) (of : c
     (unique : (b d : LockCall) → Contains (w.node a).calls b → Contains (w.node a).calls d → b.holder ≡ d.holder → b ≡ d)
     (clients : (b : LockCall) → Contains (w.node a).calls b → (b.holder.serial == 0) ≡ false)
     (listed : Contains (w.node a).calls c) (mine : asks w a c (boss_of o w a c) ≡ true)
-    (W : Whole o w) (Q : IsQuiet o w) (h : refusal o w (At a Event.Retry) ≡ None)
+    (W : Whole o w) (Q : IsQuiet (of_nodes o) w) (h : refusal o w (At a Event.Retry) ≡ None)
     (below : (d : LockCall) (x : ℕ) → asks w a d x ≡ true → x < o.bound)
     (none_before : (d : LockCall) → IsRival w a c d → comes_before o w a d c ≡ true → ⊥)
     (free : (x : ℕ) → asks w a c x ≡ true → all_grants (is_clear c) (w.node x).locks ≡ true) where

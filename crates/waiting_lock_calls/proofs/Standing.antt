@@ -15,7 +15,6 @@ use Rattle.protocol_model.specs.Event.{Event}
 use Rattle.protocol_model.specs.ClientLocks.{is_no_more}
 use Rattle.protocol_model.specs.LockAnswers.{tries_of}
 use Rattle.protocol_model.specs.World.{Opening, World, WorldEvent, At, refusal}
-use Rattle.protocol_model.specs.Leftovers.{IsQuiet, world}
 use Rattle.protocol_model.proofs.Ids.{is_id_self}
 use Rattle.getting_through.proofs.Tries.{IsTryOf}
 use Rattle.getting_through.proofs.Nobody.{some_same}
@@ -45,6 +44,8 @@ use Rattle.getting_through.proofs.Reasons.{MarksIn}
 use Rattle.waiting_lock_calls.specs.Retried.{asks}
 use Rattle.waiting_lock_calls.proofs.Tried.{AreTries, up, home}
 use Rattle.waiting_lock_calls.proofs.Front.{is_own, none_own}
+use Rattle.getting_through.specs.Worlds.{of_nodes, IsQuiet}
+use Rattle.getting_through.specs.Clauses.{world}
 
 -- who is counted is listed
 pub counted : (id : Id) (p : Process) (t : Locks) → 0 < count id p t → (g : Grant) × Contains t g × (is_id g.id id ≡ true)
@@ -129,7 +130,7 @@ denied p so j (l ∷ ls) E h = go l E.0 h (denied p so j ls E.1)
     go l D k more = more k
 
 module _ (o : Opening) (es : List WorldEvent) (a : ℕ) (c : LockCall) (listed : Contains ((world o es).node a).calls c)
-    (Q : IsQuiet o (world o es)) (h : refusal o (world o es) (At a Event.Retry) ≡ None)
+    (Q : IsQuiet (of_nodes o) (world o es)) (h : refusal o (world o es) (At a Event.Retry) ≡ None)
     (client : (c.holder.serial == 0) ≡ false) where
   abbrev w : World
   w = world o es

@@ -13,7 +13,6 @@ use Rattle.protocol_model.specs.ClientLocks.{Try, try_of, waits_for_retry}
 use Rattle.protocol_model.specs.LockAnswers.{Tries, watched, next_try, tries_by, tries_after, tries_of, meets}
 use Rattle.protocol_model.specs.World.{Opening, World, left, WorldEvent, At, Deliver, opening_world, refusal, accepted}
 use Rattle.protocol_model.specs.Fit.{is_delivery}
-use Rattle.protocol_model.specs.Leftovers.{IsQuiet, world}
 use Rattle.getting_through.proofs.Indices.{both}
 use Rattle.getting_through.proofs.Invariants.{IsUp}
 use Rattle.walk.proofs.Calls.{all_open}
@@ -33,6 +32,8 @@ use Rattle.getting_through.proofs.RetriesUsed.{spent}
 use Rattle.getting_through.proofs.Spending.{AreLeft, IsSpending}
 use Rattle.getting_through.proofs.QuietWorlds.{found_call, calls}
 use Rattle.waiting_lock_calls.specs.Retried.{asks}
+use Rattle.getting_through.specs.Worlds.{of_nodes, IsQuiet}
+use Rattle.getting_through.specs.Clauses.{world}
 
 -- what each event of some kind keeps holds behind all of them
 pub along : (kind : WorldEvent → Bool) (P : List WorldEvent → Type 0)
@@ -63,7 +64,7 @@ last_left g t (Times (suc n)) s h e = let none : suc n - 1 ≡ 0 = omega (arith,
 last_left g t Endless s h e = absurd h
 
 module _ (o : Opening) (es : List WorldEvent) (a : ℕ) (c : LockCall) (listed : Contains ((world o es).node a).calls c)
-    (Q : IsQuiet o (world o es)) (h : refusal o (world o es) (At a Event.Retry) ≡ None) where
+    (Q : IsQuiet (of_nodes o) (world o es)) (h : refusal o (world o es) (At a Event.Retry) ≡ None) where
   abbrev w : World
   w = world o es
 

@@ -16,7 +16,6 @@ use Rattle.protocol_model.specs.Client.{in_phase, is_spent, one_less}
 use Rattle.protocol_model.specs.Event.{Event, Refusal}
 use Rattle.protocol_model.specs.World.{Opening, in_world, World, left, WorldEvent, At, Deliver, turn_of, refusal, accepted, happens}
 use Rattle.protocol_model.specs.Fit.{is_delivery}
-use Rattle.protocol_model.specs.Leftovers.{IsQuiet}
 use Rattle.getting_through.proofs.Indices.{both, not_true}
 use Rattle.getting_through.proofs.Invariants.{Each, IsUp}
 use Rattle.getting_through.proofs.Rules
@@ -46,6 +45,7 @@ use Rattle.getting_through.proofs.Verdicts.{kept_in}
 use Rattle.getting_through.proofs.QuietWorlds.{call_listed}
 use Rattle.waiting_lock_calls.specs.Retried.{asks, IsRival}
 use Rattle.waiting_lock_calls.proofs.Asked.{Asks, each_apart, Begins, begins_asks, Begun, retry_begun}
+use Rattle.getting_through.specs.Worlds.{of_nodes, IsQuiet}
 
 -- behind the first rule of a delivery none is an event's own
 abbrev pub is_heard : Rule → Bool
@@ -241,7 +241,7 @@ module _ (o : Opening) (w : World) (a : ℕ) (c : LockCall) (r z : Text) (of : c
           W = walk_of o v num S (Deliver f t) e
 
   -- at first, behind the retry
-  module _ (W : Whole o w) (Q : IsQuiet o w) (h : refusal o w (At a Event.Retry) ≡ None)
+  module _ (W : Whole o w) (Q : IsQuiet (of_nodes o) w) (h : refusal o w (At a Event.Retry) ≡ None)
       (free : (x : ℕ) → asks w a c x ≡ true → all_grants (is_clear c) (w.node x).locks ≡ true) where
     abbrev u : Turn
     u = turn_of o w (At a Event.Retry)

@@ -12,9 +12,7 @@ use Rattle.protocol_model.specs.LockTable.{Grant, count, last_count, is_in_the_w
 use Rattle.protocol_model.specs.Round.{is_empty}
 use Rattle.protocol_model.specs.Node.{LockCall}
 use Rattle.protocol_model.specs.ClientLocks.{holds_count, Holds}
-use Rattle.protocol_model.specs.QuietCalls.{IsFree}
 use Rattle.protocol_model.specs.World.{Opening, World, WorldEvent}
-use Rattle.protocol_model.specs.Leftovers.{IsQuiet, world}
 use Rattle.protocol_model.proofs.Meanings.{grants_the_free}
 use Rattle.getting_through.proofs.Indices.{both, not_true, some_of, empty_at}
 use Rattle.getting_through.proofs.Invariants.{IsUp}
@@ -30,6 +28,9 @@ use Rattle.getting_through.proofs.Groups.{below as member_below, member_runs}
 use Rattle.waiting_lock_calls.specs.Retried.{asks, IsRival}
 use Rattle.waiting_lock_calls.specs.HeldUp.{boss_of, comes_before, HeldUp, Taken, Full, Behind}
 use Rattle.waiting_lock_calls.proofs.Standing.{counted}
+use Rattle.getting_through.specs.Worlds.{of_nodes, IsQuiet}
+use Rattle.getting_through.specs.Clauses.{world}
+use Rattle.getting_through.specs.QuietCalls.{IsFree}
 
 -- what is found is in the list, and passes
 pub found_in : {A : Type 0} (test : A → Bool) (xs : List A) (x : A) → find test xs ≡ Some x → Contains xs x × (test x ≡ true)
@@ -42,7 +43,7 @@ found_in {A} test (y ∷ xs) x e = go (test y) refl e (found_in test xs x)
         (subst (λ (z : A). Contains (z ∷ xs) x) (sym same) (Contains-front x xs), subst (λ (z : A). test z ≡ true) same i)
     go false i k more = let m : Contains xs x × (test x ≡ true) = more k in (Contains-behind y xs x m.0, m.1)
 
-module _ (o : Opening) (es : List WorldEvent) (Q : IsQuiet o (world o es)) (a : ℕ) (up : IsUp o (world o es) a) where
+module _ (o : Opening) (es : List WorldEvent) (Q : IsQuiet (of_nodes o) (world o es)) (a : ℕ) (up : IsUp o (world o es) a) where
   abbrev w : World
   w = world o es
 

@@ -22,16 +22,14 @@ use Rattle.protocol_model.specs.LockAnswers.{Tries, watched, tries_by, tries_of,
 use Rattle.protocol_model.specs.World.{Opening, World, left, WorldEvent, At, Deliver, opening_world, refusal, accepted, happens, answers, run}
 use Rattle.protocol_model.specs.Course.{Played, played, answers_of}
 use Rattle.protocol_model.specs.Answers.{answers_under}
-use Rattle.protocol_model.specs.QuietCalls.{IsFree}
 use Rattle.protocol_model.specs.Refusals.{HasOpenCall}
-use Rattle.protocol_model.specs.Leftovers.{IsQuiet, world}
 use Rattle.protocol_model.proofs.Finding.{any_found}
 use Rattle.getting_through.proofs.Indices.{both, is_empty_from, some_of}
 use Rattle.getting_through.proofs.Invariants.{IsUp}
 use Rattle.walk.proofs.Events.{accepted_of}
 use Rattle.walk.proofs.Runs.{happens-accepted}
 use Rattle.getting_through.proofs.Unanswered.{kept_in}
-use Rattle.getting_through.specs.Clauses.{events}
+use Rattle.getting_through.specs.Clauses.{events, world}
 use Rattle.getting_through.proofs.Asked.{all_from}
 use Rattle.getting_through.proofs.Tied.{run-push}
 use Rattle.getting_through.proofs.HeadlineUnanswered.{open_waits}
@@ -59,6 +57,8 @@ use Rattle.getting_through.proofs.Pushed.{events_push}
 use Rattle.waiting_lock_calls.specs.Retried.{asks}
 use Rattle.waiting_lock_calls.proofs.Tried.{behind, AreTries, first, first_met, found, home, up}
 use Rattle.waiting_lock_calls.proofs.Unrivalled.{is_clear}
+use Rattle.getting_through.specs.Worlds.{of_nodes, IsQuiet}
+use Rattle.getting_through.specs.QuietCalls.{IsFree}
 
 -- one event more, in the number of a process's locks
 count_more : (o : Opening) (w : World) (xs : List WorldEvent) (d : WorldEvent) (p : Process) (id : Id) (x k : ℕ)
@@ -67,7 +67,7 @@ count_more o w [] d p id x k = refl
 count_more o w (e ∷ xs) d p id x k = count_more o (happens o w e) xs d p id x (round_count_after o w e p id x k)
 
 module _ (o : Opening) (es : List WorldEvent) (a : ℕ) (c : LockCall) (listed : Contains ((world o es).node a).calls c)
-    (Q : IsQuiet o (world o es)) (h : refusal o (world o es) (At a Event.Retry) ≡ None) where
+    (Q : IsQuiet (of_nodes o) (world o es)) (h : refusal o (world o es) (At a Event.Retry) ≡ None) where
   abbrev w : World
   w = world o es
 

@@ -1,5 +1,3 @@
 pub mod Retried
 pub mod HeldUp
 pub mod NoDeadEnd
-pub mod NamedRetried
-pub mod NamedNoDeadEnd

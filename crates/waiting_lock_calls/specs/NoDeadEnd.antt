@@ -6,12 +6,10 @@ use Rattle.std.specs.List.{list_all}
 use Rattle.registry_model.specs.Process.{Process}
 use Rattle.protocol_model.specs.Watch.{is_dead}
 use Rattle.protocol_model.specs.Node.{Current, LockPhase, LockCall}
-use Rattle.protocol_model.specs.World.{Opening, World, WorldEvent, opening_world, run}
-use Rattle.protocol_model.specs.Course.{course}
+use Rattle.protocol_model.specs.World.{Opening, World, WorldEvent}
 use Rattle.protocol_model.specs.Refusals.{HasOpenCall}
-use Rattle.protocol_model.specs.Leftovers.{Runs, IsSettled}
+use Rattle.getting_through.specs.Worlds.{Worlds, events_of, steps_of, IsSettled}
 use Rattle.getting_through.specs.Answering.{NameCallsAreAnswered}
-use Rattle.getting_through.specs.GettingThrough.{is_delivery_or_retry}
 use Rattle.waiting_lock_calls.specs.HeldUp.{HeldUp}
 
 -- The call of p that its node a has accepted, and not answered yet, waits there and is held up
@@ -23,24 +21,26 @@ pub record IsHeldUpAt (o : Opening) (es : List WorldEvent) (w : World) (a : ℕ)
   pub waits : call.phase ≡ LockPhase.Waiting
   pub held_up : HeldUp o es w a call
 
--- Nothing waits but lock calls that are held up
-pub record IsFinished (o : Opening) (es : List WorldEvent) (w : World) : Type 0 where
-  -- no letter and no operation waits: each registrar that runs is free, with nothing queued
-  pub settled : IsSettled o w
-  pub free : (x : ℕ) → Runs o w x → (w.node x).current ≡ Current.Free
-  pub idle : (x : ℕ) → Runs o w x → (w.node x).queue ≡ []
-  -- each name call and each join of a running node has been answered
-  pub answered : NameCallsAreAnswered (Runs o w) (course o (opening_world o) es)
-  -- and so has each lock call, unless its process is dead, or it is held up
-  pub locks : (a : ℕ) (p : Process) → Runs o w a → (C : HasOpenCall (course o (opening_world o) es) a p) →
-      (is_dead (w.node a).watch p.serial ≡ true) ⊎ IsHeldUpAt o es w a p C.number
+module _ (W : Worlds) where
+  -- Nothing waits but lock calls that are held up
+  pub record IsFinished (es : List W.Event) (w : W.World) : Type 0 where
+    -- no letter and no operation waits: each registrar that runs is free, with nothing queued
+    pub settled : IsSettled W w
+    pub free : (x : ℕ) → W.Runs w x → ((W.nodes w).node x).current ≡ Current.Free
+    pub idle : (x : ℕ) → W.Runs w x → ((W.nodes w).node x).queue ≡ []
+    -- each name call and each join of a running node has been answered
+    pub answered : NameCallsAreAnswered (W.Runs w) (steps_of W es)
+    -- and so has each lock call, unless its process is dead, or it is held up
+    pub locks : (a : ℕ) (p : Process) → W.Runs w a → (C : HasOpenCall (steps_of W es) a p) →
+        (is_dead ((W.nodes w).node a).watch p.serial ≡ true)
+        ⊎ IsHeldUpAt W.opening (events_of W es) (W.nodes w) a p C.number
 
-module _ (o : Opening) (es : List WorldEvent) (w : World) where
-  -- These events, deliveries and retries, lead on to such a world
-  pub record LeadsOn (fs : List WorldEvent) : Type 0 where
-    pub kinds : list_all is_delivery_or_retry fs ≡ true
-    pub finished : IsFinished o (es ++ fs) (run o w fs)
+  module _ (es : List W.Event) (w : W.World) where
+    -- These events, deliveries and retries, lead on to such a world
+    pub record LeadsOn (fs : List W.Event) : Type 0 where
+      pub kinds : list_all W.is_delivery_or_retry fs ≡ true
+      pub finished : IsFinished (es ++ fs) (W.run w fs)
 
-  -- There are such events
-  abbrev pub NoDeadEnd : Type 0
-  NoDeadEnd = (fs : List WorldEvent) × LeadsOn fs
+    -- There are such events
+    abbrev pub NoDeadEnd : Type 0
+    NoDeadEnd = (fs : List W.Event) × LeadsOn fs

@@ -10,10 +10,11 @@ use Rattle.protocol_model.specs.Watch.{is_dead}
 use Rattle.protocol_model.specs.Node.{LockCall, targets}
 use Rattle.protocol_model.specs.Client.{is_spent, one_less}
 use Rattle.protocol_model.specs.Event.{Event}
-use Rattle.protocol_model.specs.World.{Opening, World, WorldEvent, At, run}
+use Rattle.protocol_model.specs.World.{World}
 use Rattle.protocol_model.specs.Course.{Played, answers_of, course}
 use Rattle.protocol_model.specs.Answers.{answer_to}
-use Rattle.protocol_model.specs.QuietCalls.{IsFree}
+use Rattle.getting_through.specs.Worlds.{Worlds, events_of}
+use Rattle.getting_through.specs.QuietCalls.{IsFree}
 use Rattle.getting_through.specs.GettingThrough.{IsAlone}
 
 -- the nodes that a lock call of a asks, as a's members are now
@@ -41,17 +42,25 @@ pub data HasBecome (w v : World) (a : ℕ) (c : LockCall) (ps : List Played) : T
   Failed : Contains (answers_of ps) (answer_to a c.number False) → IsItsLast w a c → HasBecome w v a c ps
   WaitsOn : Contains (v.node a).calls (record c { retries = one_less c.retries }) → HasBecome w v a c ps
 
-module _ (o : Opening) (es : List WorldEvent) (w : World) where
+module _ (W : Worlds) (es : List W.Event) (w : W.World) where
+  -- the steps of a's retry and of these deliveries
+  abbrev pub retried_steps : ℕ → List W.Event → List Played
+  retried_steps a ds = course W.opening (W.nodes w) (W.played w (W.at a Event.Retry ∷ ds))
+
+  -- and the world behind them
+  abbrev pub retried_world : ℕ → List W.Event → World
+  retried_world a ds = W.nodes (W.run w (W.at a Event.Retry ∷ ds))
+
   -- Each call that waits at a node which is retried has become one of these
   abbrev pub RetriesAreTold : Type 0
-  RetriesAreTold = (a : ℕ) (c : LockCall) (ds : List WorldEvent) → Contains (w.node a).calls c →
-      IsAlone o w (At a Event.Retry) ds →
-      HasBecome w (run o w (At a Event.Retry ∷ ds)) a c (course o w (At a Event.Retry ∷ ds))
+  RetriesAreTold = (a : ℕ) (c : LockCall) (ds : List W.Event) → Contains ((W.nodes w).node a).calls c →
+      IsAlone W w (W.at a Event.Retry) ds →
+      HasBecome (W.nodes w) (retried_world a ds) a c (retried_steps a ds)
 
   -- And where its lock is free at the nodes that it asks, and it has no rival, it won, unless its process has died
   abbrev pub FreeCallsWin : Type 0
-  FreeCallsWin = (a : ℕ) (c : LockCall) (r z : Text) (ds : List WorldEvent) → Contains (w.node a).calls c →
-      c.id ≡ Client r z → IsFree o es c.holder r z (asks w a c) → ((d : LockCall) → IsRival w a c d → ⊥) →
-      IsAlone o w (At a Event.Retry) ds →
-      Contains (answers_of (course o w (At a Event.Retry ∷ ds))) (answer_to a c.number True)
-      ⊎ (is_dead ((run o w (At a Event.Retry ∷ ds)).node a).watch c.holder.serial ≡ true)
+  FreeCallsWin = (a : ℕ) (c : LockCall) (r z : Text) (ds : List W.Event) → Contains ((W.nodes w).node a).calls c →
+      c.id ≡ Client r z → IsFree W.opening (events_of W es) c.holder r z (asks (W.nodes w) a c) →
+      ((d : LockCall) → IsRival (W.nodes w) a c d → ⊥) → IsAlone W w (W.at a Event.Retry) ds →
+      Contains (answers_of (retried_steps a ds)) (answer_to a c.number True)
+      ⊎ (is_dead ((retried_world a ds).node a).watch c.holder.serial ≡ true)

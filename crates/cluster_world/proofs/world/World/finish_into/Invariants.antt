@@ -1,10 +1,11 @@
 use Rattle.std.proofs.Common.{None}
-use Rattle.getting_through.specs.NamedGettingFree.{named_pending}
 use Rattle.cluster_world.specs.Finishing.{next_to_finish}
 use Rattle.cluster_world.specs.Playing.{Keeps, WaitsOn}
 use Rattle.cluster_world.specs.Seen.{names_of, named}
 use Rattle.cluster_world.specs.Settling.{PlaysOn}
 use Rattle.cluster_world.proofs.world.World.finish_into.Given as goal
+use Rattle.getting_through.specs.WorldsOfNames.{of_names}
+use Rattle.getting_through.specs.Pending.{pending}
 
 -- events were played, and no letter waits
 abbrev pub invariant-loop-self : goal.invariant-loop-self
@@ -16,4 +17,4 @@ invariant-loop-self g l = record {
 
 -- each retry lowers what is pending
 abbrev pub decreases-loop-self : goal.decreases-loop-self
-decreases-loop-self g l = named_pending (names_of l.self) (named l.self)
+decreases-loop-self g l = pending (of_names (names_of l.self)) (named l.self)
