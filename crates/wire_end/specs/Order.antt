@@ -9,6 +9,7 @@ use Rattle.letter_lines.specs.Parts.{parts_of}
 use Rattle.node_loop.specs.Alone.{Stamped as StampedLetter}
 use Rattle.node_loop.specs.declared.item.Item.{Item}
 use Rattle.node_loop.specs.declared.item.Stamped.{Stamped}
+use Rattle.node_loop.specs.declared.item.Task.{Task}
 use Rattle.wire_end.specs.declared.line.LinkLine.{LinkLine}
 use Rattle.wire_end.specs.declared.wire.Wire.{Wire}
 use Rattle.wire_end.specs.declared.wire_end.Wiring.{Wiring}
@@ -83,7 +84,7 @@ pub record InOrder (gone_out : List ℕ) (s : Wiring) : Type 0 where
   pub counted : (t : ℕ) → (t ≡ s.node → ⊥) → (link_with t s.wires).written ≡ lines_to t s.sent
   pub sent : gone_out ++ s.lines ≡ texts_behind s.node [] s.sent
 
--- an end begins in order, and stays so, whatever it sends, takes, reads or prints
+-- an end begins in order, and stays so, whatever it sends, takes, reads, is asked or prints
 pub record StayInOrder : Type 0 where
   pub begins : (node : ℕ) (world : List ℕ) → InOrder [] (begun node world)
   pub sends : (out : List ℕ) (s : Wiring) (to : ℕ) (i : Item) (t : Wiring) → InOrder out s → Posts s to i t → InOrder out t
@@ -91,4 +92,6 @@ pub record StayInOrder : Type 0 where
   pub hears : (out : List ℕ) (s : Wiring) (from : ℕ) (line : LinkLine) (t : Wiring) → InOrder out s
       → Hears from line (Ok tt) s t → InOrder out t
   pub loses : (out : List ℕ) (s : Wiring) (n : ℕ) (t : Wiring) → InOrder out s → Loses n (Ok tt) s t → InOrder out t
+  pub asks : (out : List ℕ) (s : Wiring) (task : Task) → InOrder out s → InOrder out (record s { tasks = s.tasks ++ task ∷ [] })
   pub prints : (out : List ℕ) (s : Wiring) → InOrder out s → InOrder (out ++ s.lines) (record s { lines = [] })
+  pub tells : (out : List ℕ) (s : Wiring) → InOrder out s → InOrder out (record s { orders = [] })
