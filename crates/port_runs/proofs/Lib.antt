@@ -1,0 +1,3 @@
+pub mod Printing
+pub mod Spelling
+pub mod Running
