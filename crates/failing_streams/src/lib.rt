@@ -1,6 +1,7 @@
 //! Readers and writers that fail, for tests of what reads and writes: one that is interrupted and ends in a fault, one with room for so many
 //! bytes, one that can't hand on what it took.
 #![tactic(auto)]
+
 ghost use Rattle.std.specs.Prelude.{◌≡◌, false};
 
 use std::io::{self, Error, ErrorKind, Read, Write};

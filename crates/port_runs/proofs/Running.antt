@@ -18,9 +18,8 @@ use Rattle.node_loop.proofs.Consistency.{threads_are_consistent}
 use Rattle.wire_end.specs.declared.wire_end.Wiring.{Wiring}
 use Rattle.wire_end.specs.Dealings.{of_node, dealt_of}
 use Rattle.wire_end.specs.Hearing.{gone}
-use Rattle.wire_end.specs.Order.{seen, spelled_by, came_of, KeepsOwn}
+use Rattle.wire_end.specs.Order.{seen, spelled_by, KeepsOwn}
 use Rattle.wire_end.proofs.Ordering.{each}
-use Rattle.port_runs.specs.Printing.{lines_out}
 use Rattle.port_runs.specs.Laws.{AreLinked, PortsHaveARun}
 use Rattle.port_runs.proofs.Spelling.{link_spelled, begins_spelled}
 
@@ -94,10 +93,11 @@ module _ (o : Opening) (printed : ℕ → List ℕ) (ends : ℕ → Wiring) (lin
 
   pub took_begins : (f t : ℕ) → in_world o f ≡ true → in_world o t ≡ true → Begins (took (dealt_of (ends t)) f) (put (dealt_of (ends f)) t)
   took_begins f t here there =
-      let began = all_begin f t here there in
-      (began.0,
-      as_seen (of_node t (ends f).sent)
-      ∙ (began.1 ∙ ap (λ (ls : List StampedLetter). ls ++ began.0) (sym (as_seen (of_node f (ends t).taken)))))
+      let began = all_begin f t here there in (
+        began.0,
+        as_seen (of_node t (ends f).sent)
+            ∙ (began.1 ∙ ap (λ (ls : List StampedLetter). ls ++ began.0) (sym (as_seen (of_node f (ends t).taken)))),
+      )
 
 pub ports_have_a_run : PortsHaveARun
 ports_have_a_run o logs tables printed ends tell linked =

@@ -1,5 +1,5 @@
 -- What the lines of a link spell is the letters that they are of, and lines that begin others spell letters that begin theirs.
-use Rattle.std.proofs.Common.{ℕ, Bool, true, false, ◌≡◌, ◌==◌, ◌+◌, Option, Some, None, option_map, List, [], ◌∷◌, ◌++◌, map, flat_map, refl, sym, ap, subst, ◌∙◌, append-nil, append_assoc}
+use Rattle.std.proofs.Common.{ℕ, Bool, true, false, ◌≡◌, ◌==◌, ◌+◌, Option, Some, None, option_map, List, [], ◌∷◌, ◌++◌, map, refl, sym, ap, subst, ◌∙◌, append-nil, append_assoc}
 use Rattle.std.specs.Prelude.{if◌then◌else◌}
 use Rattle.std.specs.List.{AllByRecursion}
 use Rattle.std.proofs.lemmas.Bool.{ne_eqb}
@@ -28,12 +28,15 @@ mark stamp l = record { stamp = stamp; letter = l }
 shift : (ps : List Part) (g : Gathered) (xs ys : List AnyLetter)
     → read_on ps g (xs ++ ys) ≡ option_map (λ (r : Gathered × List AnyLetter). (r.0, xs ++ r.1)) (read_on ps g ys)
 shift [] g xs ys = refl
-shift (p ∷ ps) g xs ys = go (taken p g)
+shift (p ∷ ps) g xs ys = go (taken p g) (λ k zs. shift ps k xs zs)
   where
-    go : (t : Taken) → behind t (xs ++ ys) (read_on ps) ≡ option_map (λ (r : Gathered × List AnyLetter). (r.0, xs ++ r.1)) (behind t ys (read_on ps))
-    go None = refl
-    go (Some (k, None)) = shift ps k xs ys
-    go (Some (k, Some l)) = ap (λ (zs : List AnyLetter). read_on ps k zs) (append_assoc xs ys (l ∷ [])) ∙ shift ps k xs (ys ++ l ∷ [])
+    go : (t : Taken)
+        → ((k : Gathered) (zs : List AnyLetter)
+        → read_on ps k (xs ++ zs) ≡ option_map (λ (r : Gathered × List AnyLetter). (r.0, xs ++ r.1)) (read_on ps k zs))
+        → behind t (xs ++ ys) (read_on ps) ≡ option_map (λ (r : Gathered × List AnyLetter). (r.0, xs ++ r.1)) (behind t ys (read_on ps))
+    go None rest = refl
+    go (Some (k, None)) rest = rest k ys
+    go (Some (k, Some l)) rest = ap (λ (zs : List AnyLetter). read_on ps k zs) (append_assoc xs ys (l ∷ [])) ∙ rest k (ys ++ l ∷ [])
 
 -- lines of parts behind which a letter was made, where those parts alone spell so
 spelled_letter : (ps : List Part) (n stamp : ℕ) (k h : Gathered) (l : AnyLetter) (ms : List AnyLetter) (rest : List LinkLine) (xs : List StampedLetter)
@@ -41,7 +44,7 @@ spelled_letter : (ps : List Part) (n stamp : ℕ) (k h : Gathered) (l : AnyLette
     → spelled_on (lines_of n stamp ps ++ rest) k (xs ++ mark stamp l ∷ [])
     ≡ spelled_on rest h2 ((xs ++ mark stamp l ∷ []) ++ map (mark stamp) ms2))
     → (o : Option (Gathered × List AnyLetter)) → read_on ps k [] ≡ o
-    → option_map (λ (r : Gathered × List AnyLetter). (r.0, l ∷ r.1)) o ≡ Some (h, ms)
+    → option_map {U = Gathered × List AnyLetter} (λ (r : Gathered × List AnyLetter). (r.0, l ∷ r.1)) o ≡ Some (h, ms)
     → spelled_on (lines_of n stamp ps ++ rest) k (xs ++ mark stamp l ∷ []) ≡ spelled_on rest h (xs ++ map (mark stamp) ms)
 spelled_letter ps n stamp k h l ms rest xs spells None f e = absurd (cc e)
 spelled_letter ps n stamp k h l ms rest xs spells (Some (h2, ms2)) f e =
@@ -60,17 +63,18 @@ spelled_parts [] n stamp g h ms rest xs e =
     let pair : (g, []) ≡ (h, ms) = cc e in
     subst (λ (r : Gathered × List AnyLetter). spelled_on rest g xs ≡ spelled_on rest r.0 (xs ++ map (mark stamp) r.1)) pair
     (ap (λ (zs : List StampedLetter). spelled_on rest g zs) (sym (append-nil xs)))
-spelled_parts (p ∷ ps) n stamp g h ms rest xs e = go (taken p g) e
+spelled_parts (p ∷ ps) n stamp g h ms rest xs e = go (taken p g) (λ k h2 ms2 zs f. spelled_parts ps (n + 1) stamp k h2 ms2 rest zs f) e
   where
-    go : (t : Taken) → behind t [] (read_on ps) ≡ Some (h, ms)
+    go : (t : Taken)
+        → ((k h2 : Gathered) (ms2 : List AnyLetter) (zs : List StampedLetter) → read_on ps k [] ≡ Some (h2, ms2)
+        → spelled_on (lines_of (n + 1) stamp ps ++ rest) k zs ≡ spelled_on rest h2 (zs ++ map (mark stamp) ms2))
+        → behind t [] (read_on ps) ≡ Some (h, ms)
         → onward t stamp xs (spelled_on (lines_of (n + 1) stamp ps ++ rest)) ≡ spelled_on rest h (xs ++ map (mark stamp) ms)
-    go None e = absurd (cc e)
-    go (Some (k, None)) e =
-        ap (λ (zs : List StampedLetter). spelled_on (lines_of (n + 1) stamp ps ++ rest) k zs) (append-nil xs)
-        ∙ spelled_parts ps (n + 1) stamp k h ms rest xs e
-    go (Some (k, Some l)) e =
-        spelled_letter ps (n + 1) stamp k h l ms rest xs
-        (λ h2 ms2 f. spelled_parts ps (n + 1) stamp k h2 ms2 rest (xs ++ mark stamp l ∷ []) f)
+    go None more e = absurd (cc e)
+    go (Some (k, None)) more e =
+        ap (λ (zs : List StampedLetter). spelled_on (lines_of (n + 1) stamp ps ++ rest) k zs) (append-nil xs) ∙ more k h ms xs e
+    go (Some (k, Some l)) more e =
+        spelled_letter ps (n + 1) stamp k h l ms rest xs (λ h2 ms2 f. more k h2 ms2 (xs ++ mark stamp l ∷ []) f)
         (read_on ps k []) refl (sym (shift ps k (l ∷ []) []) ∙ e)
 
 -- the lines of a letter spell it
@@ -142,12 +146,13 @@ spelled_begins : (ls : List LinkLine) (g h : Gathered) (xs ys : List StampedLett
 spelled_begins [] g h xs ys e =
     let pair : (g, xs) ≡ (h, ys) = cc e in
     ([], sym (ap (λ (r : Gathered × List StampedLetter). r.1) pair) ∙ sym (append-nil xs))
-spelled_begins (l ∷ ls) g h xs ys e = go (taken l.part g) e
+spelled_begins (l ∷ ls) g h xs ys e = go (taken l.part g) (λ k zs f. spelled_begins ls k h zs ys f) e
   where
-    go : (t : Taken) → onward t l.stamp xs (spelled_on ls) ≡ Some (h, ys) → Begins xs ys
-    go None e = absurd (cc e)
-    go (Some z) e =
-        let more = spelled_begins ls z.0 h (xs ++ ended_by l.stamp z.1) ys e in
+    go : (t : Taken) → ((k : Gathered) (zs : List StampedLetter) → spelled_on ls k zs ≡ Some (h, ys) → Begins zs ys)
+        → onward t l.stamp xs (spelled_on ls) ≡ Some (h, ys) → Begins xs ys
+    go None rest e = absurd (cc e)
+    go (Some z) rest e =
+        let more : Begins (xs ++ ended_by l.stamp z.1) ys = rest z.0 (xs ++ ended_by l.stamp z.1) e in
         (ended_by l.stamp z.1 ++ more.0, more.1 ∙ append_assoc xs (ended_by l.stamp z.1) more.0)
 
 -- lines and then others
@@ -156,12 +161,14 @@ spelled_then : (ls more : List LinkLine) (g k : Gathered) (xs zs : List StampedL
 spelled_then [] more g k xs zs e =
     let pair : (g, xs) ≡ (k, zs) = cc e in
     ap (λ (r : Gathered × List StampedLetter). spelled_on more r.0 r.1) pair
-spelled_then (l ∷ ls) more g k xs zs e = go (taken l.part g) e
+spelled_then (l ∷ ls) more g k xs zs e = go (taken l.part g) (λ f ys d. spelled_then ls more f k ys zs d) e
   where
-    go : (t : Taken) → onward t l.stamp xs (spelled_on ls) ≡ Some (k, zs)
+    go : (t : Taken)
+        → ((f : Gathered) (ys : List StampedLetter) → spelled_on ls f ys ≡ Some (k, zs) → spelled_on (ls ++ more) f ys ≡ spelled_on more k zs)
+        → onward t l.stamp xs (spelled_on ls) ≡ Some (k, zs)
         → onward t l.stamp xs (spelled_on (ls ++ more)) ≡ spelled_on more k zs
-    go None e = absurd (cc e)
-    go (Some z) e = spelled_then ls more z.0 k (xs ++ ended_by l.stamp z.1) zs e
+    go None rest e = absurd (cc e)
+    go (Some z) rest e = rest z.0 (xs ++ ended_by l.stamp z.1) e
 
 -- lines that begin others spell letters that begin theirs
 pub begins_spelled : (ls more : List LinkLine) (g h : Gathered) (letters all : List StampedLetter) → spelled_by ls ≡ Some (g, letters)

@@ -1,6 +1,6 @@
 -- An end's letters to its own node stay with it.
 use Rattle.std.proofs.Common.{ℕ, Bool, true, false, zero, suc, ◌≡◌, ◌==◌, ◌<◌, inl, inr, Option, Some, None, Ok, List, [], ◌∷◌, ◌++◌, map, length, get_or, set, refl, sym, ap, subst, ◌∙◌, cond, append_assoc, arith}
-use Rattle.std.specs.Prelude.{if◌then◌else◌, ◌&&◌, not, filter}
+use Rattle.std.specs.Prelude.{if◌then◌else◌, not, filter}
 use Rattle.std.specs.List.{list_all}
 use Rattle.std.proofs.lemmas.Bool.{and_from, and_parts, not-true, eq-eqb}
 use Rattle.node_events.specs.declared.events.Letter.{Letter as ALetter}
@@ -15,7 +15,7 @@ use Rattle.wire_end.specs.Dealings.{of_node}
 use Rattle.wire_end.specs.Hearing.{HearsAt, LosesAt, laid_if, read_at, lost_where, closed, gone}
 use Rattle.wire_end.specs.Links.{HearsPart}
 use Rattle.wire_end.specs.Order.{KeepsOwn, KeepTheirOwn}
-use Rattle.wire_end.specs.Wirings.{place, wire_at, new_wire, kept, printed, Posts, Takes, begun}
+use Rattle.wire_end.specs.Wirings.{place, wire_at, new_wire, kept, printed, Posts, Takes}
 use Rattle.wire_end.proofs.Dealing.{led_at, led}
 use Rattle.wire_end.proofs.Ordering.{more-same, more-other, first-same, first-other}
 use Rattle.wire_end.proofs.Places.{at-place}
@@ -23,16 +23,15 @@ use Rattle.wire_end.proofs.Places.{at-place}
 -- none of the links that an end begins with leads to its node
 apart-new : (node : ℕ) (world : List ℕ) → list_all (λ w. not (w.node == node)) (map new_wire (filter (λ n. not (n == node)) world)) ≡ true
 apart-new node [] = refl
-apart-new node (n ∷ world) = go (n == node) refl
+apart-new node (n ∷ world) = go (n == node) refl (apart-new node world)
   where
-    go : (b : Bool) → (n == node) ≡ b
+    go : (b : Bool) → (n == node) ≡ b → list_all (λ w. not (w.node == node)) (map new_wire (filter (λ n. not (n == node)) world)) ≡ true
         → list_all (λ w. not (w.node == node))
         (map new_wire (cond (not b) (n ∷ filter (λ n. not (n == node)) world) (filter (λ n. not (n == node)) world)))
         ≡ true
-    go true e = apart-new node world
-    go false e =
-        and_from (not (n == node)) (list_all (λ w. not (w.node == node)) (map new_wire (filter (λ n. not (n == node)) world))) (ap not e)
-        (apart-new node world)
+    go true e rest = rest
+    go false e rest =
+        and_from (not (n == node)) (list_all (λ w. not (w.node == node)) (map new_wire (filter (λ n. not (n == node)) world))) (ap not e) rest
 
 -- where none leads to the node, the one at a place doesn't
 apart-at : (node : ℕ) (wires : List Wire) (k : ℕ) → k < length wires → list_all (λ w. not (w.node == node)) wires ≡ true

@@ -1,6 +1,6 @@
 -- The order of an end's lines: of each other node, what its lines spell is what was taken of it and what waits; and what is printed is the
 -- lines of the letters that were sent to others.
-use Rattle.std.specs.Prelude.{ℕ, false, ◌≡◌, ◌⊎◌, ◌==◌, ◌+◌, not, Option, Some, None, Ok, List, [], ◌∷◌, ◌++◌, map, length, if◌then◌else◌}
+use Rattle.std.specs.Prelude.{ℕ, true, false, ◌≡◌, ◌⊎◌, ◌==◌, ◌+◌, not, Option, Some, None, Ok, List, [], ◌∷◌, ◌++◌, map, length, if◌then◌else◌}
 use Rattle.std.specs.List.{sum_by, list_all, AllByRecursion}
 use Rattle.protocol_model.specs.Letter.{Letter as AnyLetter}
 use Rattle.letter_lines.specs.Gathered.{Gathered, Taken, taken, nothing}
