@@ -17,7 +17,9 @@ pub struct Torn<'a> {
 impl<'a> Torn<'a> {
     /// A reader of these bytes.
     pub fn new(bytes: &'a [u8], step: usize) -> Self
-        ensures { result ≡ record { bytes = bytes; step = step; is_interrupted = false } }
+        ensures bytes { result.bytes.now ≡ bytes.now }
+        ensures step { result.step ≡ step }
+        ensures fresh { result.is_interrupted ≡ false }
     {
         Torn {
             bytes,
