@@ -288,7 +288,7 @@ module _ (o : Opening) where
   -- one call after another
   finish_by : (n : ℕ) → ((es : List WorldEvent) → open_calls o (world o es) < n → Finished es) → (es : List WorldEvent)
       → open_calls o (world o es) ≤ n → Finished es
-  finish_by n more es l = go (registrars_get_free o es)
+  finish_by n more es l = let freed = registrars_get_free o es in go (freed.0, freed.1)
     where
       go : (fs : List WorldEvent) × GetFree (of_nodes o) es (world o es) fs → Finished es
       go (fs, G) = joined es fs G.kinds (elim (nodes_held every (es ++ fs) (settled es fs G).quiet o.bound) [
