@@ -1,3 +1,4 @@
+pub use Rattle.node_events.specs.Letters
 pub mod Processes
 pub mod Grammar
 pub mod Lines

@@ -1,6 +1,5 @@
 //! Letters that are read of their lines, printed and read again; and lines that are refused.
-use letter_lines::{Gathering, LetterFault, parts_of, print_part, read_part};
-use node_events::Letter;
+use letter_lines::{Gathering, Letter, LetterFault, parts_of, print_part, read_part};
 use std::alloc::{AllocError, Global};
 
 /// Puts the lines of a letter behind others, parted by ` | `.

@@ -7,10 +7,10 @@ use Rattle.std.proofs.lemmas.Grind.{flat_map-append}
 use Rattle.std.proofs.lemmas.List.{map-append}
 use Rattle.std.proofs.lemmas.List.Sums.{sum_by-append}
 use Rattle.registry_model.proofs.Updates.{by_test}
-use Rattle.node_events.specs.declared.events.Letter.{Letter as ALetter}
+use Rattle.letter_lines.specs.declared.Letter.{Letter as ALetter}
 use Rattle.protocol_model.specs.Letter.{Letter as AnyLetter}
 use Rattle.letter_lines.specs.Gathered.{Gathered, Taken, taken, nothing}
-use Rattle.node_events.specs.Letters.{letter_of}
+use Rattle.letter_lines.specs.Letters.{letter_of}
 use Rattle.letter_lines.specs.Laws.{IsLetter}
 use Rattle.letter_lines.specs.Parts.{parts_of}
 use Rattle.node_loop.specs.Alone.{Stamped as StampedLetter}

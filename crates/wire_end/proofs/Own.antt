@@ -3,7 +3,7 @@ use Rattle.std.proofs.Common.{ℕ, Bool, true, false, zero, suc, ◌≡◌, ◌=
 use Rattle.std.specs.Prelude.{if◌then◌else◌, not, filter}
 use Rattle.std.specs.List.{list_all}
 use Rattle.std.proofs.lemmas.Bool.{and_from, and_parts, not-true, eq-eqb}
-use Rattle.node_events.specs.declared.events.Letter.{Letter as ALetter}
+use Rattle.letter_lines.specs.declared.Letter.{Letter as ALetter}
 use Rattle.letter_lines.specs.Parts.{parts_of}
 use Rattle.node_loop.specs.declared.item.Item.{Item}
 use Rattle.node_loop.specs.declared.item.Item.TheVariants.{Letter, Task}

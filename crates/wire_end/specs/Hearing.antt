@@ -1,7 +1,7 @@
 -- What an end does with a line that is read.
 use Rattle.std.specs.Prelude.{ℕ, Bool, true, false, ◌≡◌, ◌⊎◌, Option, Some, None, Result, Ok, Err, [], ◌∷◌, ◌++◌, slice_set}
-use Rattle.node_events.specs.declared.events.Letter.{Letter}
-use Rattle.node_events.specs.declared.events.Letter.TheVariants.{Down}
+use Rattle.letter_lines.specs.declared.Letter.{Letter}
+use Rattle.letter_lines.specs.declared.Letter.TheVariants.{Down}
 use Rattle.letter_lines.specs.declared.faults.LetterFault.TheVariants.{Memory}
 use Rattle.letter_lines.specs.Gathered.{nothing}
 use Rattle.node_loop.specs.declared.item.Stamped.{Stamped}

@@ -6,3 +6,5 @@ pub mod Wirings
 pub mod Hearing
 pub mod Dealings
 pub mod Order
+pub mod Printing
+pub mod Runs

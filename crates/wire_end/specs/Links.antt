@@ -1,7 +1,7 @@
 -- One link between a node and another.
 use Rattle.std.specs.Prelude.{ℕ, Bool, true, false, ◌≡◌, ◌==◌, ◌&&◌, ◌||◌, ◌+◌, not, Option, Some, Result, Ok, Err}
-use Rattle.node_events.specs.declared.events.Letter.{Letter}
-use Rattle.node_events.specs.declared.events.Letter.TheVariants.{Down}
+use Rattle.letter_lines.specs.declared.Letter.{Letter}
+use Rattle.letter_lines.specs.declared.Letter.TheVariants.{Down}
 use Rattle.letter_lines.specs.declared.part.Part.{Part as APart}
 use Rattle.letter_lines.specs.Gathered.{Takes}
 use Rattle.wire_end.specs.declared.faults.HearFault.{HearFault}

@@ -4,7 +4,7 @@ use Rattle.std.specs.Prelude.{ℕ, true, false, ◌≡◌, ◌⊎◌, ◌==◌, 
 use Rattle.std.specs.List.{sum_by, list_all, AllByRecursion}
 use Rattle.protocol_model.specs.Letter.{Letter as AnyLetter}
 use Rattle.letter_lines.specs.Gathered.{Gathered, Taken, taken, nothing}
-use Rattle.node_events.specs.Letters.{letter_of}
+use Rattle.letter_lines.specs.Letters.{letter_of}
 use Rattle.letter_lines.specs.Laws.{IsLetter}
 use Rattle.letter_lines.specs.Parts.{parts_of}
 use Rattle.node_loop.specs.Alone.{Stamped as StampedLetter}

@@ -2,8 +2,8 @@
 use Rattle.std.specs.Prelude.{ℕ, ◌==◌, codes, List, [], ◌∷◌, ◌++◌, flat_map, Option, Some, None, if◌then◌else◌}
 use Rattle.registry_model.specs.Process.{Process}
 use Rattle.registry_model.specs.Settlement.{Noted}
-use Rattle.node_events.specs.declared.events.Letter.{Letter}
-use Rattle.node_events.specs.declared.events.Letter.TheVariants.{Admit, Welcome}
+use Rattle.letter_lines.specs.declared.Letter.{Letter}
+use Rattle.letter_lines.specs.declared.Letter.TheVariants.{Admit, Welcome}
 use Rattle.letter_lines.specs.Processes.{process_bytes}
 use Rattle.term.specs.Spelling.{bytes_of}
 

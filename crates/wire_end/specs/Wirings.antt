@@ -3,7 +3,7 @@ use Rattle.std.specs.Prelude.{ℕ, Bool, true, false, ◌≡◌, ◌⊎◌, ◌=
 use Rattle.std.specs.List.{position}
 use Rattle.link.specs.declared.faults.LinkFault.{LinkFault}
 use Rattle.link.specs.declared.faults.LinkFault.TheVariants.{NoSuchNode, Memory}
-use Rattle.node_events.specs.declared.events.Letter.{Letter as ALetter}
+use Rattle.letter_lines.specs.declared.Letter.{Letter as ALetter}
 use Rattle.letter_lines.specs.Gathered.{nothing}
 use Rattle.letter_lines.specs.Laws.{IsLetter}
 use Rattle.letter_lines.specs.Parts.{parts_of}

@@ -4,6 +4,7 @@ ghost use Rattle.node_loop.specs.Dealings.{Deals};
 ghost use Rattle.wire_end.specs.Wirings.{Posts, Takes};
 ghost use Rattle.wire_end.specs.Dealings.{dealt_of, leads_inside};
 ghost use Rattle.wire_end.specs.Order.{StayInOrder, KeepTheirOwn};
+ghost use Rattle.wire_end.specs.Runs.{LinesArePrinted, EndsHaveARun};
 
 /// An end of lines deals as the letters say that it sent and took: each sending is behind the others to its node, each letter that is taken
 /// behind the others from its node, and none is taken from a stranger. So a node's loop over it stays sound.
@@ -21,4 +22,17 @@ pub fn ends_stay_in_order()
 /// them comes or goes on a line.
 pub fn ends_keep_their_own()
     ensures { KeepTheirOwn }
+{}
+
+/// What an end in order printed, and is to print, is the texts of the lines of its letters to others, letter after letter, and on each link
+/// line after line.
+pub fn lines_are_printed()
+    ensures { LinesArePrinted }
+{}
+
+/// Where what each node read of another begins what that prints for it, and nobody was told that a node is gone without a word, the logs
+/// of all have one run, which the world plays to its end; and behind it the headline holds, clients' locks exclude each other and are
+/// answered as they are to be, and nothing is left over. So it is of programs that run one node each.
+pub fn ends_have_a_run()
+    ensures { EndsHaveARun }
 {}

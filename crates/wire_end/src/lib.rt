@@ -12,10 +12,11 @@ mod wire;
 mod wire_end;
 
 pub use faults::HearFault;
-pub use laws::{ends_deal, ends_stay_in_order};
-pub use letter_lines::{LetterFault, Part};
+pub use laws::{
+    ends_deal, ends_have_a_run, ends_keep_their_own, ends_stay_in_order, lines_are_printed,
+};
+pub use letter_lines::{Letter, LetterFault, Part};
 pub use line::LinkLine;
 pub use link::{Inbox, Post};
-pub use node_events::Letter;
 pub use node_loop::{Event, Item, Stamped, Task};
 pub use wire_end::{WireEnd, Wiring};

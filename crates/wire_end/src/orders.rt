@@ -2,8 +2,7 @@
 ghost use Rattle.std.specs.Prelude.{◌≡◌, ◌++◌, flat_map, OnOk, string_bytes};
 ghost use Rattle.wire_end.specs.Orders.{kill_line, notice_line, notice_text, fate_text, orders_of};
 
-use exchange::Noted;
-use node_events::Letter;
+use letter_lines::{Letter, Noted};
 use std::alloc::AllocError;
 use std::fmt::Write as _;
 use term::{Node, Pid};

@@ -4,8 +4,7 @@ ghost use Rattle.letter_lines.specs.Gathered.{nothing};
 ghost use Rattle.wire_end.specs.Links.{HearsPart, is_next};
 
 use crate::faults::HearFault;
-use letter_lines::{Gathering, Part};
-use node_events::Letter;
+use letter_lines::{Gathering, Letter, Part};
 use std::alloc::Global;
 use term::Node;
 

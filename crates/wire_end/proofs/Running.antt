@@ -20,8 +20,8 @@ use Rattle.wire_end.specs.Dealings.{of_node, dealt_of}
 use Rattle.wire_end.specs.Hearing.{gone}
 use Rattle.wire_end.specs.Order.{seen, spelled_by, KeepsOwn}
 use Rattle.wire_end.proofs.Ordering.{each}
-use Rattle.port_runs.specs.Laws.{AreLinked, PortsHaveARun}
-use Rattle.port_runs.proofs.Spelling.{link_spelled, begins_spelled}
+use Rattle.wire_end.specs.Runs.{AreLinked, EndsHaveARun}
+use Rattle.wire_end.proofs.Spelling.{link_spelled, begins_spelled}
 
 -- letters that were dealt in, as the protocol has them
 as_seen : (ls : List Stamped) → letters_in (map Letter ls) ≡ map seen ls
@@ -77,7 +77,7 @@ module _ (o : Opening) (printed : ℕ → List ℕ) (ends : ℕ → Wiring) (lin
       let whole = link_spelled (ends f).node t [] (ends f).sent [] apart ((linked.order f here).letters t apart) in
       begins_then (map seen (of_node f (ends t).taken)) spells.letters (map seen (of_node t (ends f).sent))
       (before_last (map seen (of_node f (ends t).taken)) (map seen (of_node f (ends t).heard)) spells.letters spells.last spells.word
-      (stamps_seen (of_node f (ends t).taken) (linked.stamped t there f))
+      (stamps_seen (of_node f (ends t).taken) (linked.stamped f t there ne))
       (sym (map-append seen (of_node f (ends t).taken) (of_node f (ends t).heard)) ∙ spells.came_is))
       (begins_spelled (of_node f (ends t).read) began.0 spells.items _ spells.letters (map seen (of_node t (ends f).sent)) spells.spelled
       (ap spelled_by (sym began.1) ∙ whole))
@@ -99,8 +99,8 @@ module _ (o : Opening) (printed : ℕ → List ℕ) (ends : ℕ → Wiring) (lin
             ∙ (began.1 ∙ ap (λ (ls : List StampedLetter). ls ++ began.0) (sym (as_seen (of_node f (ends t).taken)))),
       )
 
-pub ports_have_a_run : PortsHaveARun
-ports_have_a_run o logs tables printed ends tell linked =
+pub ends_have_a_run : EndsHaveARun
+ends_have_a_run o logs tables printed ends tell linked =
     let run = consistent_ends_have_a_run o (λ a. map seen_entry (logs a).entries) tables
     (threads_are_consistent o logs tables (λ a. dealt_of (ends a)) tell (took_begins o printed ends linked)) in
     record {

@@ -7,12 +7,12 @@ use Rattle.letter_lines.specs.Parts.{parts_of}
 use Rattle.node_loop.specs.declared.item.Stamped.{Stamped}
 use Rattle.wire_end.specs.Order.{lines_to, text_behind, texts_behind}
 use Rattle.wire_end.specs.Sending.{line_of, lines_of as texts_of}
-use Rattle.port_runs.specs.Printing.{lines_of, lines_of_next, lines_behind, text_of_line}
-use Rattle.port_runs.specs.Laws.{LinesArePrinted}
+use Rattle.wire_end.specs.Printing.{numbered_lines, lines_of_next, lines_behind, text_of_line}
+use Rattle.wire_end.specs.Runs.{LinesArePrinted}
 
 -- of the parts of a letter
 parts_printed : (to written stamp : ℕ) (ps : List Part)
-    → texts_of to written stamp ps ≡ flat_map text_of_line (map (λ l. (to, l)) (lines_of written stamp ps))
+    → texts_of to written stamp ps ≡ flat_map text_of_line (map (λ l. (to, l)) (numbered_lines written stamp ps))
 parts_printed to written stamp [] = refl
 parts_printed to written stamp (p ∷ ps) =
     ap (λ (text : List ℕ). line_of to (written + 1) stamp p ++ text) (parts_printed to (written + 1) stamp ps)
@@ -25,7 +25,7 @@ next_printed node before x = go (x.0 == node)
     go : (b : Bool)
         → (if b then [] else texts_of x.0 (lines_to x.0 before) x.1.stamp (parts_of x.1.letter))
         ≡ flat_map text_of_line
-        (if b then [] else map (λ l. (x.0, l)) (lines_of (lines_to x.0 before) x.1.stamp (parts_of x.1.letter)))
+        (if b then [] else map (λ l. (x.0, l)) (numbered_lines (lines_to x.0 before) x.1.stamp (parts_of x.1.letter)))
     go true = refl
     go false = parts_printed x.0 (lines_to x.0 before) x.1.stamp (parts_of x.1.letter)
 

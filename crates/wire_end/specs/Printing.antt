@@ -9,14 +9,14 @@ use Rattle.wire_end.specs.Order.{lines_to}
 use Rattle.wire_end.specs.Sending.{line_of}
 
 -- parts of a letter, each as a line, numbered behind so many, with the stamp of the step that sends it
-abbrev pub lines_of : ℕ → ℕ → List Part → List LinkLine
-lines_of written stamp [] = []
-lines_of written stamp (p ∷ ps) = record { number = written + 1; stamp = stamp; part = p } ∷ lines_of (written + 1) stamp ps
+abbrev pub numbered_lines : ℕ → ℕ → List Part → List LinkLine
+numbered_lines written stamp [] = []
+numbered_lines written stamp (p ∷ ps) = record { number = written + 1; stamp = stamp; part = p } ∷ numbered_lines (written + 1) stamp ps
 
 -- the lines of a letter that is sent behind these, each with the node that it goes to; one of the node to itself has none
 abbrev pub lines_of_next : ℕ → List (ℕ × Stamped) → ℕ × Stamped → List (ℕ × LinkLine)
 lines_of_next node before x =
-    if x.0 == node then [] else map (λ l. (x.0, l)) (lines_of (lines_to x.0 before) x.1.stamp (parts_of x.1.letter))
+    if x.0 == node then [] else map (λ l. (x.0, l)) (numbered_lines (lines_to x.0 before) x.1.stamp (parts_of x.1.letter))
 
 -- those of letters that are sent behind these
 abbrev pub lines_behind : ℕ → List (ℕ × Stamped) → List (ℕ × Stamped) → List (ℕ × LinkLine)

@@ -5,7 +5,7 @@ use Rattle.std.specs.List.{AllByRecursion}
 use Rattle.std.proofs.lemmas.Bool.{ne_eqb}
 use Rattle.std.proofs.lemmas.Grind.{flat_map-append}
 use Rattle.protocol_model.specs.Letter.{Letter as AnyLetter}
-use Rattle.node_events.specs.Letters.{letter_of}
+use Rattle.letter_lines.specs.Letters.{letter_of}
 use Rattle.letter_lines.specs.declared.part.Part.{Part}
 use Rattle.letter_lines.specs.Gathered.{Gathered, Taken, taken, nothing, behind, read_on}
 use Rattle.letter_lines.specs.Laws.{IsLetter}
@@ -18,7 +18,7 @@ use Rattle.wire_end.specs.declared.line.LinkLine.{LinkLine}
 use Rattle.wire_end.specs.Dealings.{of_node}
 use Rattle.wire_end.specs.Order.{seen, ended_by, onward, spelled_on, spelled_by, lines_to}
 use Rattle.wire_end.proofs.Ordering.{first-same, first-other, each}
-use Rattle.port_runs.specs.Printing.{lines_of, lines_of_next, lines_behind}
+use Rattle.wire_end.specs.Printing.{numbered_lines, lines_of_next, lines_behind}
 
 -- a letter with this stamp
 abbrev mark : ℕ → AnyLetter → StampedLetter
@@ -41,24 +41,24 @@ shift (p ∷ ps) g xs ys = go (taken p g) (λ k zs. shift ps k xs zs)
 -- lines of parts behind which a letter was made, where those parts alone spell so
 spelled_letter : (ps : List Part) (n stamp : ℕ) (k h : Gathered) (l : AnyLetter) (ms : List AnyLetter) (rest : List LinkLine) (xs : List StampedLetter)
     → ((h2 : Gathered) (ms2 : List AnyLetter) → read_on ps k [] ≡ Some (h2, ms2)
-    → spelled_on (lines_of n stamp ps ++ rest) k (xs ++ mark stamp l ∷ [])
+    → spelled_on (numbered_lines n stamp ps ++ rest) k (xs ++ mark stamp l ∷ [])
     ≡ spelled_on rest h2 ((xs ++ mark stamp l ∷ []) ++ map (mark stamp) ms2))
     → (o : Option (Gathered × List AnyLetter)) → read_on ps k [] ≡ o
     → option_map {U = Gathered × List AnyLetter} (λ (r : Gathered × List AnyLetter). (r.0, l ∷ r.1)) o ≡ Some (h, ms)
-    → spelled_on (lines_of n stamp ps ++ rest) k (xs ++ mark stamp l ∷ []) ≡ spelled_on rest h (xs ++ map (mark stamp) ms)
+    → spelled_on (numbered_lines n stamp ps ++ rest) k (xs ++ mark stamp l ∷ []) ≡ spelled_on rest h (xs ++ map (mark stamp) ms)
 spelled_letter ps n stamp k h l ms rest xs spells None f e = absurd (cc e)
 spelled_letter ps n stamp k h l ms rest xs spells (Some (h2, ms2)) f e =
     let pair : (h2, l ∷ ms2) ≡ (h, ms) = cc e in
     subst
     (λ (r : Gathered × List AnyLetter).
-    spelled_on (lines_of n stamp ps ++ rest) k (xs ++ mark stamp l ∷ []) ≡ spelled_on rest r.0 (xs ++ map (mark stamp) r.1))
+    spelled_on (numbered_lines n stamp ps ++ rest) k (xs ++ mark stamp l ∷ []) ≡ spelled_on rest r.0 (xs ++ map (mark stamp) r.1))
     pair
     (spells h2 ms2 f ∙ ap (λ (zs : List StampedLetter). spelled_on rest h2 zs) (append_assoc xs (mark stamp l ∷ []) (map (mark stamp) ms2)))
 
 -- the lines of parts spell the letters that the parts are read as, with the stamp of the lines
 spelled_parts : (ps : List Part) (n stamp : ℕ) (g h : Gathered) (ms : List AnyLetter) (rest : List LinkLine) (xs : List StampedLetter)
     → read_on ps g [] ≡ Some (h, ms)
-    → spelled_on (lines_of n stamp ps ++ rest) g xs ≡ spelled_on rest h (xs ++ map (mark stamp) ms)
+    → spelled_on (numbered_lines n stamp ps ++ rest) g xs ≡ spelled_on rest h (xs ++ map (mark stamp) ms)
 spelled_parts [] n stamp g h ms rest xs e =
     let pair : (g, []) ≡ (h, ms) = cc e in
     subst (λ (r : Gathered × List AnyLetter). spelled_on rest g xs ≡ spelled_on rest r.0 (xs ++ map (mark stamp) r.1)) pair
@@ -67,19 +67,19 @@ spelled_parts (p ∷ ps) n stamp g h ms rest xs e = go (taken p g) (λ k h2 ms2 
   where
     go : (t : Taken)
         → ((k h2 : Gathered) (ms2 : List AnyLetter) (zs : List StampedLetter) → read_on ps k [] ≡ Some (h2, ms2)
-        → spelled_on (lines_of (n + 1) stamp ps ++ rest) k zs ≡ spelled_on rest h2 (zs ++ map (mark stamp) ms2))
+        → spelled_on (numbered_lines (n + 1) stamp ps ++ rest) k zs ≡ spelled_on rest h2 (zs ++ map (mark stamp) ms2))
         → behind t [] (read_on ps) ≡ Some (h, ms)
-        → onward t stamp xs (spelled_on (lines_of (n + 1) stamp ps ++ rest)) ≡ spelled_on rest h (xs ++ map (mark stamp) ms)
+        → onward t stamp xs (spelled_on (numbered_lines (n + 1) stamp ps ++ rest)) ≡ spelled_on rest h (xs ++ map (mark stamp) ms)
     go None more e = absurd (cc e)
     go (Some (k, None)) more e =
-        ap (λ (zs : List StampedLetter). spelled_on (lines_of (n + 1) stamp ps ++ rest) k zs) (append-nil xs) ∙ more k h ms xs e
+        ap (λ (zs : List StampedLetter). spelled_on (numbered_lines (n + 1) stamp ps ++ rest) k zs) (append-nil xs) ∙ more k h ms xs e
     go (Some (k, Some l)) more e =
         spelled_letter ps (n + 1) stamp k h l ms rest xs (λ h2 ms2 f. more k h2 ms2 (xs ++ mark stamp l ∷ []) f)
         (read_on ps k []) refl (sym (shift ps k (l ∷ []) []) ∙ e)
 
 -- the lines of a letter spell it
 letter_spelled : (l : Stamped) (n : ℕ) (rest : List LinkLine) (xs : List StampedLetter) → IsLetter l.letter
-    → spelled_on (lines_of n l.stamp (parts_of l.letter) ++ rest) nothing xs ≡ spelled_on rest nothing (xs ++ seen l ∷ [])
+    → spelled_on (numbered_lines n l.stamp (parts_of l.letter) ++ rest) nothing xs ≡ spelled_on rest nothing (xs ++ seen l ∷ [])
 letter_spelled l n rest xs is =
     spelled_parts (parts_of l.letter) n l.stamp nothing nothing (letter_of l.letter ∷ []) rest xs
     (ap (λ (ps : List Part). read_on ps nothing []) (sym (append-nil (parts_of l.letter))) ∙ read_again (l.letter ∷ []) (is, tt))
@@ -100,7 +100,7 @@ AreLetters ls = AllByRecursion (λ (l : Stamped). IsLetter l.letter) ls
 -- the lines of a letter, on its own link and on another
 module _ (node m : ℕ) (before : List (ℕ × Stamped)) (l : Stamped) where
   abbrev own_lines : List LinkLine
-  own_lines = lines_of (lines_to m before) l.stamp (parts_of l.letter)
+  own_lines = numbered_lines (lines_to m before) l.stamp (parts_of l.letter)
 
   next_same : (m ≡ node → ⊥) → of_node m (lines_of_next node before (m, l)) ≡ own_lines
   next_same other =

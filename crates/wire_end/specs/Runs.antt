@@ -5,9 +5,9 @@ use Rattle.registry_model.specs.Table.{Table}
 use Rattle.protocol_model.specs.World.{Opening, in_world}
 use Rattle.closing_runs.specs.Laws.{HasARun}
 use Rattle.closing_runs.specs.Merging.{events_in, world_behind}
-use Rattle.leftovers.specs.Worlds.{of_nodes, Agrees}
+use Rattle.lock_answers.specs.Worlds.{of_nodes, Agrees}
 use Rattle.lock_answers.specs.ClientLocks.{ClientLocks}
-use Rattle.leftovers.specs.Leftovers.{NothingIsLeft}
+use Rattle.lock_answers.specs.Leftovers.{NothingIsLeft}
 use Rattle.node_loop.specs.Alone.{Entry}
 use Rattle.node_log.specs.Seen.{seen_entry}
 use Rattle.node_loop.specs.Held.{Written}
@@ -17,7 +17,7 @@ use Rattle.wire_end.specs.declared.line.LinkLine.{LinkLine}
 use Rattle.wire_end.specs.declared.wire_end.Wiring.{Wiring}
 use Rattle.wire_end.specs.Dealings.{of_node, dealt_of}
 use Rattle.wire_end.specs.Order.{InOrder, KeepsOwn}
-use Rattle.port_runs.specs.Printing.{lines_out, text_of_line}
+use Rattle.wire_end.specs.Printing.{lines_out, text_of_line}
 
 -- what an end in order printed, and is to print, is the texts of its lines
 abbrev pub LinesArePrinted : Type 0
@@ -28,13 +28,13 @@ abbrev pub Begin : List LinkLine → List LinkLine → Type 0
 Begin some whole = (rest : List LinkLine) × (whole ≡ some ++ rest)
 
 -- The ends of a world's nodes, where each has printed this: each is in order, and its node's letters to itself stayed in it. Each letter
--- that was taken has the stamp of a step: nobody was told that a node is gone without a word. And what each node read of another begins
--- what that prints for it
+-- that was taken of another has the stamp of a step: nobody was told that a node is gone without a word. And what each node read of
+-- another begins what that prints for it
 pub record AreLinked (o : Opening) (printed : ℕ → List ℕ) (ends : ℕ → Wiring) : Type 0 where
   pub nodes : (a : ℕ) → in_world o a ≡ true → (ends a).node ≡ a
   pub order : (a : ℕ) → in_world o a ≡ true → InOrder (printed a) (ends a)
   pub own : (a : ℕ) → in_world o a ≡ true → KeepsOwn (ends a)
-  pub stamped : (a : ℕ) → in_world o a ≡ true → (f : ℕ) → AllByRecursion (λ (l : Stamped). 0 < l.stamp) (of_node f (ends a).taken)
+  pub stamped : (f t : ℕ) → in_world o t ≡ true → (f ≡ t → ⊥) → AllByRecursion (λ (l : Stamped). 0 < l.stamp) (of_node f (ends t).taken)
   pub read : (f t : ℕ) → in_world o f ≡ true → in_world o t ≡ true → (f ≡ t → ⊥)
       → Begin (of_node f (ends t).read) (of_node t (lines_out (ends f)))
 
@@ -46,7 +46,7 @@ pub record PlayAsOne (o : Opening) (logs : ℕ → List Entry) (tables : ℕ →
   pub nothing_is_left : NothingIsLeft (of_nodes o) (events_in run.steps) (world_behind o run.steps)
 
 -- where the nodes' logs and tables tell of what went over such ends, they play as one
-abbrev pub PortsHaveARun : Type 0
-PortsHaveARun = (o : Opening) (logs : ℕ → Written) (tables : ℕ → Table) (printed : ℕ → List ℕ) (ends : ℕ → Wiring)
+abbrev pub EndsHaveARun : Type 0
+EndsHaveARun = (o : Opening) (logs : ℕ → Written) (tables : ℕ → Table) (printed : ℕ → List ℕ) (ends : ℕ → Wiring)
     → AllTell o logs tables (λ a. dealt_of (ends a)) → AreLinked o printed ends
     → PlayAsOne o (λ a. map seen_entry (logs a).entries) tables

@@ -1,3 +1,0 @@
-pub mod Printing
-pub mod Spelling
-pub mod Running
