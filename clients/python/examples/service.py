@@ -8,6 +8,7 @@ usage: service.py SOCKET serve
 The server is one that stays: cluster_main serve --stay --listen unix:SOCKET --nodes a,b
 """
 
+import contextlib
 import pathlib
 import socket
 import sys
@@ -25,7 +26,8 @@ def answer_all(listener: socket.socket) -> None:
     """Answers each line of each caller with its capitals, one caller after the other."""
     while True:
         caller, _ = listener.accept()
-        with caller, caller.makefile("rwb") as lines:
+        # one that goes before its answer takes nobody else's
+        with contextlib.suppress(OSError), caller, caller.makefile("rwb") as lines:
             for line in lines:
                 lines.write(line.upper())
                 lines.flush()
@@ -64,12 +66,13 @@ def call(place: str, text: str) -> str:
         while True:
             server.wait_for(NAME)
             found = server.find(NAME)
-            if found and found.description:
-                answer = ask(found.description, text)
-                if answer is not None:
-                    return answer
-                # it is about to lose the name, so it needn't be asked again
-                server.wait_gone(NAME, found.process)
+            if not found:
+                continue
+            answer = ask(found.description, text) if found.description else None
+            if answer is not None:
+                return answer
+            # who has no address, or answers nothing, isn't asked again: the next one is
+            server.wait_gone(NAME, found.process)
 
 
 if __name__ == "__main__":
