@@ -289,7 +289,7 @@ pub refused_in : (entered : Entered) (rows : List Row) (r : Result Task ArgFault
     → IsErrAnd r (λ y. y ≡ f) → RefusesValues (λ id. first_of id rows) f → MatchResult r (AsksIn entered) (RefusesIn entered)
 refused_in entered rows (Ok t) f same is h = absurd is
 refused_in entered rows (Err y) f same is h =
-    subst (λ (e : Entered). RefusesIn e y) (sym same) (refl, subst (RefusesValues (λ id. first_of id rows)) (sym is) h)
+    subst (λ (e : Entered). RefusesIn e y) (sym same) (inl (refl, subst (RefusesValues (λ id. first_of id rows)) (sym is) h))
 
 -- words that clap refuses
 pub refused_by : (words : List Text) (r : Result Task ArgFault) (e : Error) → IsErrAnd r (λ y. y ≡ fault.Words e) → HasKind (refusals words) e
@@ -302,11 +302,8 @@ pub asked_by : (words : List Text) (e : Entered) (r : Result Task ArgFault) → 
     → MatchResult r (AsksIn e) (RefusesIn e) → MatchResult r (Asks words) (Refuses words)
 asked_by words e (Ok t) is none h = record { taken = none; asked = subst (λ (x : Entered). AsksIn x t) is h }
 asked_by words e (Err (fault.Words x)) is none h = inl h.1
-asked_by words e (Err (fault.Text f)) is none h =
-    let g = subst (λ (x : Entered). RefusesIn x (fault.Text f)) is h in record { taken = none; serves = g.0; refused = g.1 }
-asked_by words e (Err fault.SameNode) is none h =
-    let g = subst (λ (x : Entered). RefusesIn x fault.SameNode) is h in record { taken = none; serves = g.0; refused = g.1 }
-asked_by words e (Err fault.TooManyNodes) is none h =
-    let g = subst (λ (x : Entered). RefusesIn x fault.TooManyNodes) is h in record { taken = none; serves = g.0; refused = g.1 }
-asked_by words e (Err (fault.Options f)) is none h =
-    let g = subst (λ (x : Entered). RefusesIn x (fault.Options f)) is h in record { taken = none; serves = g.0; refused = g.1 }
+asked_by words e (Err (fault.Text f)) is none h = record { taken = none; refused = subst (λ (x : Entered). RefusesIn x (fault.Text f)) is h }
+asked_by words e (Err fault.SameNode) is none h = record { taken = none; refused = subst (λ (x : Entered). RefusesIn x fault.SameNode) is h }
+asked_by words e (Err fault.TooManyNodes) is none h = record { taken = none; refused = subst (λ (x : Entered). RefusesIn x fault.TooManyNodes) is h }
+asked_by words e (Err fault.NoSuchNode) is none h = record { taken = none; refused = subst (λ (x : Entered). RefusesIn x fault.NoSuchNode) is h }
+asked_by words e (Err (fault.Options f)) is none h = record { taken = none; refused = subst (λ (x : Entered). RefusesIn x (fault.Options f)) is h }

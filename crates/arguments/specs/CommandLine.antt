@@ -1,5 +1,5 @@
 -- The command line of the program, and what its words ask for.
-use Rattle.std.specs.Prelude.{◌≡◌, true, codes, List, [], ◌∷◌, ◌++◌, Option, Some, None, pos, option_map, option_and_then}
+use Rattle.std.specs.Prelude.{◌≡◌, ℕ, true, codes, List, [], ◌∷◌, ◌++◌, Option, Some, None, pos, option_map, option_and_then}
 use Rattle.clap.specs.Words.{App, Kinds, Row, Rule, Shape, Text, fault_of, first_of, new_app, new_rule, subcommand_of, with_subcommand}
 use Rattle.clap.specs.Simple.{new_shape}
 use Rattle.clap.specs.declared.builder.action.ArgAction.TheVariants.{Set, SetTrue}
@@ -42,10 +42,18 @@ staying_rules = stay_rule ∷ one_valued (codes "cookie-file") ∷ idle_rule ∷
 abbrev pub serve_shape : Shape
 serve_shape = record valued_serve_shape { rules = valued_rules ++ staying_rules }
 
--- a command with a version and two subcommands, `script`, which takes no arguments, and `serve`, of which one is wanted
+-- an argument that stands at this place, and can't be left out
+abbrev pub placed : ℕ → Text → Rule
+placed place id = record (new_rule id) { index = Some place; action = Some Set; required = true; value_names = 1 }
+
+-- the subcommand `node` with its arguments
+abbrev pub node_shape : Shape
+node_shape = record (new_shape (codes "node")) { rules = placed 1 (codes "node") ∷ placed 2 (codes "nodes") ∷ [] }
+
+-- a command with a version and three subcommands, `script`, which takes no arguments, `serve` and `node`, of which one is wanted
 abbrev pub program : App
 program =
-    let app = with_subcommand (with_subcommand (new_app (codes "cluster_main")) (new_app (codes "script")).top) serve_shape in
+    let app = with_subcommand (with_subcommand (with_subcommand (new_app (codes "cluster_main")) (new_app (codes "script")).top) serve_shape) node_shape in
     record app { top = record app.top { has_version = true; subcommand_required = true } }
 
 -- the kinds of error that a parse of words, the program's name first, may give: none where they ask for something

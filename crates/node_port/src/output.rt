@@ -1,0 +1,49 @@
+//! What is printed for one line.
+ghost use Rattle.std.specs.Prelude.{◌≡◌, ◌++◌, [], string_bytes};
+ghost use Rattle.text_lines.specs.Writing.{Writes};
+
+use std::alloc::Global;
+use std::io::Write;
+use text_lines::{WriteFault, write_text};
+
+/// What is to be printed for a line, but for letters: what changed, and what is answered.
+#[derive(Drop)]
+pub(crate) struct Output {
+    pub(crate) changes: String,
+    pub(crate) answers: String,
+}
+
+impl Output {
+    /// Nothing. It takes no memory.
+    pub(crate) fn new(alloc: Global) -> Self {
+        Output {
+            changes: String::new(alloc),
+            answers: String::new(alloc),
+        }
+    }
+
+    /// Writes all, with these orders and these lines of letters: changes first, then what letters order, letters, and answers. So a name is
+    /// shown before anybody hears that it is. After a fault a part was written.
+    pub(crate) fn write<W: Write>(
+        &self,
+        orders: &str,
+        lines: &str,
+        writer: &mut W,
+    ) -> Result<(), WriteFault>
+        ensures { Writes (W.contents writer.old) (W.contents writer.new) result
+            (string_bytes self.now.changes ++ (orders.now ++ (lines.now ++ string_bytes self.now.answers))) }
+    {
+        write_text(writer, self.changes.as_bytes())?;
+        write_text(writer, orders.as_bytes())?;
+        write_text(writer, lines.as_bytes())?;
+        write_text(writer, self.answers.as_bytes())
+    }
+
+    /// Nothing is to be printed any more.
+    pub(crate) fn clear(&mut self)
+        ensures { (string_bytes self.new.changes ≡ []) × (string_bytes self.new.answers ≡ []) }
+    {
+        self.changes.clear();
+        self.answers.clear();
+    }
+}
