@@ -1,10 +1,11 @@
--- How what a step does to the table is shown.
+-- How what changed at a node is shown.
 use Rattle.std.specs.Prelude.{ℕ, Bool, map, flat_map, List, [], ◌∷◌}
 use Rattle.registry_model.specs.Table.{Pair}
 use Rattle.name_table.specs.declared.change.Change.{Change}
 use Rattle.name_table.specs.declared.change.Change.TheVariants as change
 use Rattle.node_loop.specs.declared.edit.Edit.{Edit}
 use Rattle.node_loop.specs.declared.edit.Edit.TheVariants.{Write, Departure, Whole, Leave}
+use Rattle.node_loop.specs.declared.edit.Update.{Update}
 use Rattle.node_port.specs.Shown.{Shown, Puts, Removes, Strikes, Drops, Clears, Stands}
 
 abbrev pub put_of : Pair → Shown
@@ -22,19 +23,22 @@ edit_lines (Departure n) = Drops n ∷ []
 edit_lines (Whole pairs left) = Clears ∷ map put_of pairs.items
 edit_lines Leave = []
 
--- what changed that is printed: the table, or how the node stands
+-- what changed that is printed: the table, or whether the node is joined, and with whom
 pub data Changed : Type 0 where
-  Edited : (edit : Edit) → Changed
-  Stood : (joined : Bool) → (members : List ℕ) → Changed
+  Edited : (update : Update) → Changed
+  Stood : (joined : Bool) (members : List ℕ) → Changed
 
 abbrev pub changed_line : Changed → List Shown
-changed_line (Edited edit) = edit_lines edit
+changed_line (Edited update) = edit_lines update.edit
 changed_line (Stood joined members) = Stands joined members ∷ []
 
--- the edits of the table among changes
-abbrev pub edit_of : Changed → List Edit
-edit_of (Edited edit) = edit ∷ []
-edit_of (Stood joined members) = []
+abbrev pub changed_lines : List Changed → List Shown
+changed_lines changes = flat_map changed_line changes
 
-abbrev pub edits_of : List Changed → List Edit
-edits_of changes = flat_map edit_of changes
+-- the updates of the table among changes
+abbrev pub update_of : Changed → List Update
+update_of (Edited update) = update ∷ []
+update_of (Stood joined members) = []
+
+abbrev pub updates_of : List Changed → List Update
+updates_of changes = flat_map update_of changes

@@ -3,6 +3,8 @@ pub mod Numbers
 pub mod Commands
 pub mod Shown
 pub mod Edits
+pub mod Deeds
 pub mod Soundness
-pub mod Ran
 pub mod Playing
+pub mod Ran
+pub mod Working

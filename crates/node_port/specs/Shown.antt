@@ -34,7 +34,7 @@ task_word (Step f) = step_word f
 
 -- what came of a task
 abbrev pub outcome_text : Result Came TaskFault → List ℕ
-outcome_text (Ok (Answered a)) = reply_text a.reply
+outcome_text (Ok (Answered stamp a)) = reply_text a.reply
 outcome_text (Ok Made) = codes "ok"
 outcome_text (Ok Left) = codes "ok"
 outcome_text (Err f) = codes "error " ++ task_word f

@@ -1,6 +1,7 @@
 //! What is printed for one line.
 ghost use Rattle.std.specs.Prelude.{◌≡◌, ◌++◌, [], string_bytes};
 ghost use Rattle.text_lines.specs.Writing.{Writes};
+ghost use Rattle.node_port.specs.Working.{IsEmpty};
 
 use std::alloc::Global;
 use std::io::Write;
@@ -15,7 +16,9 @@ pub(crate) struct Output {
 
 impl Output {
     /// Nothing. It takes no memory.
-    pub(crate) fn new(alloc: Global) -> Self {
+    pub(crate) fn new(alloc: Global) -> Self
+        ensures { IsEmpty result }
+    {
         Output {
             changes: String::new(alloc),
             answers: String::new(alloc),
@@ -41,7 +44,7 @@ impl Output {
 
     /// Nothing is to be printed any more.
     pub(crate) fn clear(&mut self)
-        ensures { (string_bytes self.new.changes ≡ []) × (string_bytes self.new.answers ≡ []) }
+        ensures { IsEmpty self.new }
     {
         self.changes.clear();
         self.answers.clear();

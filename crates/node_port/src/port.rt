@@ -1,10 +1,13 @@
 //! A node and its end of lines.
-ghost use Rattle.std.specs.Prelude.{◌≡◌, ◌∷◌, [], true, IfOk};
+ghost use Rattle.std.specs.Prelude.{◌≡◌, ◌∷◌, [], true, Some, IfOk, if◌then◌else◌};
 ghost use Rattle.std.specs.List.{All};
 ghost use Rattle.term.specs.NodeSets.{set_of};
 ghost use Rattle.term.specs.Nodes.{IsFirst};
-ghost use Rattle.node_loop.specs.NodeCoreHeld.{fresh};
-ghost use Rattle.node_loop.specs.Sound.{BeginsSound};
+ghost use Rattle.node_loop.specs.Coming.{begun};
+ghost use Rattle.wire_end.specs.Wirings.{begun as begun_end};
+ghost use Rattle.node_port.specs.Playing.{asked};
+ghost use Rattle.node_port.specs.Ran.{core_of, opened_so};
+ghost use Rattle.node_port.specs.Working.{stands_behind, stand_of, IsEmpty};
 
 use crate::commands::{Command, Refused, line_fault};
 use crate::output::Output;
@@ -12,14 +15,13 @@ use crate::printing::{
     push_edit, push_gap, push_no_such_node, push_refusal, push_reply, push_spent, push_state,
     push_steps, push_wait,
 };
-use letter_lines::LetterFault;
 use name_table::IndexTable;
 use node_loop::{Event, ForgottenLog, NodeCore, NodeLoop, OpenGate, Task, Ticket, TurnFault};
 use std::alloc::{AllocError, Global};
 use std::io::Write;
 use term::{Node, NodeSet, Pid};
 use text_lines::WriteFault;
-use wire_end::{HearFault, LinkLine, WireEnd};
+use wire_end::{HearFault, LetterFault, LinkLine, WireEnd};
 
 /// So many turns are made for a tick: as many as a refused round waits for one rival.
 const TURNS_OF_A_TICK: u32 = 16;
@@ -61,17 +63,20 @@ fn open_loop(
 ) -> Result<PortLoop, AllocError>
     requires known { set_of world.now node.now ≡ true }
     requires first { All IsFirst world.now }
-    ensures { IfOk result (λ new. BeginsSound new.core new × (new.core ≡ fresh node.now world.now (node.now ∷ []) founds)) }
+    ensures { IfOk result (λ new. new ≡ begun 0 (core_of node.now world.now founds)) }
 {
     let members = NodeSet::one(node.copy());
     NodeLoop::new(
         alloc,
         NodeCore::new(alloc, node.copy(), world, &members, founds),
+        0,
     )
 }
 
 /// Whether the node has left, or goes on.
-fn standing_of(has_left: bool) -> Standing {
+fn standing_of(has_left: bool) -> Standing
+    ensures { result ≡ stands_behind has_left }
+{
     if has_left {
         Standing::HasLeft
     } else {
@@ -80,7 +85,9 @@ fn standing_of(has_left: bool) -> Standing {
 }
 
 /// What is asked under a tag.
-fn task_of(tag: u64, event: Event) -> Task {
+fn task_of(tag: u64, event: Event) -> Task
+    ensures { result ≡ asked tag event }
+{
     let ticket = Ticket {
         seat: 0,
         slot: 0,
@@ -93,8 +100,19 @@ fn task_of(tag: u64, event: Event) -> Task {
 }
 
 impl Port {
-    ghost use Rattle.std.specs.Prelude.{◌≡◌};
-    ghost use Rattle.node_port.specs.Soundness.{IsBesides};
+    ghost use Rattle.std.specs.Prelude.{◌≡◌, ◌∷◌, ◌++◌, [], true, ℕ, List, None, OnOk, IfOk, string_bytes, if◌then◌else◌};
+    ghost use Rattle.text_lines.specs.Writing.{Writes};
+    ghost use Rattle.node_loop.specs.Held.{owes};
+    ghost use Rattle.wire_end.specs.declared.faults.HearFault.{HearFault};
+    ghost use Rattle.node_port.specs.Commands.{Taken, Follows, Refused, TakenAs};
+    ghost use Rattle.node_port.specs.Deeds.{Does, Turn};
+    ghost use Rattle.node_port.specs.Edits.{Stood};
+    ghost use Rattle.node_port.specs.Playing.{spent};
+    ghost use Rattle.node_port.specs.Shown.{Waits};
+    ghost use Rattle.node_port.specs.Working.{stand_of, Grows, IsEmpty, ShowsAll, GoesOn, ComesTo, Concludes, Settles, RefusesFor, PlaysAt, ShowsStill};
+    ghost use Rattle.node_port.specs.declared.commands.Command.TheVariants.{Ask, Steps, Letter, Down, Tick};
+    ghost use Rattle.node_port.specs.declared.port.Standing.{Standing};
+    ghost use Rattle.node_port.specs.declared.port.Standing.TheVariants.{Runs};
 
     /// This node of a world, before its first step.
     pub(crate) fn open(
@@ -105,11 +123,15 @@ impl Port {
     ) -> Result<Self, AllocError>
         requires known { set_of world.now node.now ≡ true }
         requires first { All IsFirst world.now }
+        ensures opened { IfOk result (λ port. stand_of port ≡ opened_so node.now world.now founds) }
+        ensures empty { IfOk result (λ port. IsEmpty port.output) }
     {
+        let opened = open_loop(alloc, node, world, founds)?;
+        let end = WireEnd::new(alloc, node.copy(), world)?;
         Ok(Port {
             alloc,
-            node: open_loop(alloc, node, world, founds)?,
-            end: WireEnd::new(alloc, node.copy(), world)?,
+            node: opened,
+            end,
             output: Output::new(alloc),
             joined: founds,
             members: NodeSet::one(node.copy()),
@@ -130,32 +152,37 @@ impl Port {
 
     /// Prints whether the node is joined, and with whom.
     pub(crate) fn show_state(&mut self) -> Result<(), AllocError>
-        ensures end { self.new.end ≡ self.old.end }
-        ensures node { self.new.node ≡ self.old.node }
+        ensures stand { stand_of self.new ≡ stand_of self.old }
+        ensures shown { OnOk result (Grows (Stood self.old.node.core.joined self.old.node.core.members ∷ []) [] self.old.output self.new.output) }
     {
         self.joined = self.node.is_joined();
         self.members = self.node.members().copy();
         push_state(&mut self.output.changes, self.joined, &self.members)
     }
 
-    /// Prints what the last turn changed.
-    fn show_changes(&mut self) -> Result<(), AllocError>
-        ensures end { self.new.end ≡ self.old.end }
-        ensures node { IsBesides self.old.node self.new.node }
+    /// Prints whether the node is joined, and with whom, where that isn't what was printed last.
+    fn show_new_state(&mut self) -> Result<(), AllocError>
+        ensures { OnOk result (ShowsStill self.old self.new) }
+    {
+        if self.joined != self.node.is_joined() || self.members != *self.node.members() {
+            return self.show_state();
+        }
+        Ok(())
+    }
+
+    /// Prints what the last turn did to the table.
+    fn show_update(&mut self) -> Result<(), AllocError>
+        ensures { OnOk result (ShowsAll self.old self.new) }
     {
         if let Some(update) = self.node.next_update(self.alloc)? {
             push_edit(&mut self.output.changes, &update.edit)?;
-        }
-        if self.joined != self.node.is_joined() || self.members != *self.node.members() {
-            self.show_state()?;
         }
         Ok(())
     }
 
     /// Prints what the last turn replied.
     fn show_replies(&mut self) -> Result<(), AllocError>
-        ensures end { self.new.end ≡ self.old.end }
-        ensures node { IsBesides self.old.node self.new.node }
+        ensures { OnOk result (ShowsStill self.old self.new) }
     {
         while let Some(reply) = self.node.next_reply() {
             push_reply(&mut self.output.answers, self.alloc, reply)?;
@@ -163,16 +190,36 @@ impl Port {
         Ok(())
     }
 
+    /// Prints what the last turn did and replied.
+    fn show(&mut self) -> Result<(), AllocError>
+        ensures { OnOk result (ShowsAll self.old self.new) }
+    {
+        self.show_update()?;
+        self.show_new_state()?;
+        self.show_replies()
+    }
+
+    /// One turn, of which nothing is printed yet.
+    fn make_turn(&mut self) -> Result<(), TurnFault>
+        ensures turned { Does (Turn result) (stand_of self.old) (stand_of self.new) }
+        ensures output { self.new.output ≡ self.old.output }
+    {
+        self.node.turn(&mut self.end, &OpenGate)
+    }
+
     /// One turn, and what it prints: why the loop can't go on, where it can't.
-    fn turn(&mut self) -> Result<(), TurnFault> {
-        let outcome = self.node.turn(&mut self.end, &OpenGate);
-        self.show_changes()?;
-        self.show_replies()?;
+    fn turn(&mut self) -> Result<(), TurnFault>
+        ensures { ComesTo result self.old self.new }
+    {
+        let outcome = self.make_turn();
+        self.show()?;
         outcome
     }
 
     /// Turns until one finds nothing to do.
-    fn settle(&mut self) -> Result<(), TurnFault> {
+    fn settle(&mut self) -> Result<(), TurnFault>
+        ensures { ComesTo result self.old self.new }
+    {
         for _ in 0..u64::MAX {
             self.turn()?;
             if !self.node.worked() {
@@ -182,22 +229,28 @@ impl Port {
         Ok(())
     }
 
-    /// Time went by.
-    fn tick(&mut self) -> Result<(), TurnFault> {
+    /// The turns of a tick.
+    fn turn_for_a_tick(&mut self) -> Result<(), TurnFault>
+        ensures { ComesTo result self.old self.new }
+    {
         for _ in 0..TURNS_OF_A_TICK {
             self.turn()?;
         }
+        Ok(())
+    }
+
+    /// Time went by.
+    fn pass_time(&mut self) -> Result<(), TurnFault>
+        ensures { ComesTo result self.old self.new }
+    {
+        self.turn_for_a_tick()?;
         self.settle()
     }
 
-    /// The node is asked for an event.
-    fn ask(&mut self, tag: u64, event: Event) -> Result<(), TurnFault> {
-        self.end.ask(task_of(tag, event))?;
-        self.settle()
-    }
-
-    /// How the node stands behind its turns; where no stamp is left for a step, that is printed.
-    fn behind(&mut self, outcome: Result<(), TurnFault>) -> Result<Standing, AllocError> {
+    /// How the node stands behind turns; where no stamp is left for a step, that is printed.
+    fn conclude(&mut self, outcome: Result<(), TurnFault>) -> Result<Standing, AllocError>
+        ensures { IfOk result (λ standing. Concludes outcome standing self.old self.new) }
+    {
         match outcome {
             Ok(()) => Ok(standing_of(self.node.has_left())),
             Err(TurnFault::StampsSpent) => {
@@ -208,76 +261,113 @@ impl Port {
         }
     }
 
-    /// A line of a link was taken, or why it wasn't.
-    fn take_heard(
+    /// Turns until one finds nothing to do: how the node stands then.
+    fn settled(&mut self) -> Result<Standing, AllocError>
+        ensures { IfOk result (λ standing. Settles standing self.old self.new) }
+    {
+        let outcome = self.settle();
+        self.conclude(outcome)
+    }
+
+    /// The node is asked for an event.
+    fn ask(&mut self, tag: u64, event: Event) -> Result<Standing, AllocError>
+        ensures { IfOk result (λ standing. PlaysAt (Follows (Ask tag event)) standing (spent standing) self.old self.new) }
+    {
+        self.end.ask(task_of(tag, event))?;
+        self.settled()
+    }
+
+    /// Time went by.
+    fn tick(&mut self) -> Result<Standing, AllocError>
+        ensures { IfOk result (λ standing. PlaysAt (Follows Tick) standing (spent standing) self.old self.new) }
+    {
+        let outcome = self.pass_time();
+        self.conclude(outcome)
+    }
+
+    /// Prints why a line of a link, or the word that a node is gone, isn't taken.
+    fn refuse_heard(
         &mut self,
         from: &Node,
         number: u64,
-        heard: Result<(), HearFault>,
-    ) -> Result<Standing, AllocError> {
-        match heard {
-            Ok(()) => {
-                let outcome = self.settle();
-                return self.behind(outcome);
-            }
-            Err(HearFault::Gap) => {
+        fault: HearFault,
+    ) -> Result<Standing, AllocError>
+        ensures stand { stand_of self.new ≡ stand_of self.old }
+        ensures refused { IfOk result (λ standing. RefusesFor fault from.now number standing self.old self.new) }
+    {
+        match fault {
+            HearFault::Gap => {
                 push_gap(&mut self.output.answers, from, number)?;
-                return Ok(Standing::Broken);
+                Ok(Standing::Broken)
             }
-            Err(HearFault::NoSuchNode) => push_no_such_node(&mut self.output.answers)?,
-            Err(HearFault::Part(LetterFault::Memory)) => return Err(AllocError),
-            Err(HearFault::Part(fault)) => {
+            HearFault::NoSuchNode => {
+                push_no_such_node(&mut self.output.answers)?;
+                Ok(Standing::Runs)
+            }
+            HearFault::Part(LetterFault::Memory) => Err(AllocError),
+            HearFault::Part(fault) => {
                 push_refusal(&mut self.output.answers, None, &line_fault(fault))?;
+                Ok(Standing::Runs)
             }
         }
-        Ok(Standing::Runs)
     }
 
     /// A line of a link came.
-    fn hear(&mut self, from: &Node, line: LinkLine) -> Result<Standing, AllocError> {
+    fn hear(&mut self, from: &Node, line: LinkLine) -> Result<Standing, AllocError>
+        ensures { IfOk result (λ standing. (taken : Taken) × TakenAs (Letter from.now line) taken × PlaysAt taken standing (spent standing) self.old self.new) }
+    {
         let number = line.number;
-        let heard = self.end.hear(from, line);
-        self.take_heard(from, number, heard)
+        match self.end.hear(from, line) {
+            Ok(()) => self.settled(),
+            Err(fault) => self.refuse_heard(from, number, fault),
+        }
     }
 
     /// Another node is gone without a word.
-    fn lose(&mut self, node: &Node) -> Result<Standing, AllocError> {
-        let heard = self.end.lose(node);
-        self.take_heard(node, 0, heard)
+    fn lose(&mut self, node: &Node) -> Result<Standing, AllocError>
+        ensures { IfOk result (λ standing. (taken : Taken) × TakenAs (Down node.now) taken × PlaysAt taken standing (spent standing) self.old self.new) }
+    {
+        match self.end.lose(node) {
+            Ok(()) => self.settled(),
+            Err(fault) => self.refuse_heard(node, 0, fault),
+        }
     }
 
     /// Prints how many steps the node has made.
-    fn count(&mut self, tag: u64) -> Result<(), AllocError> {
+    fn count(&mut self, tag: u64) -> Result<Standing, AllocError>
+        ensures { IfOk result (λ standing. PlaysAt (Follows (Steps tag)) standing (spent standing) self.old self.new) }
+    {
         let steps = self.node.numbers().steps;
-        push_steps(&mut self.output.answers, tag, steps)
+        push_steps(&mut self.output.answers, tag, steps)?;
+        Ok(Standing::Runs)
     }
 
     /// Does what a line says, and gives how the node stands behind it.
-    pub(crate) fn play(&mut self, command: Command) -> Result<Standing, AllocError> {
-        let outcome = match command {
+    pub(crate) fn play(&mut self, command: Command) -> Result<Standing, AllocError>
+        ensures { IfOk result (λ standing. (taken : Taken) × TakenAs command taken × PlaysAt taken standing (spent standing) self.old self.new) }
+    {
+        match command {
             Command::Ask(tag, event) => self.ask(tag, event),
             Command::Tick => self.tick(),
-            Command::Letter(from, line) => return self.hear(&from, line),
-            Command::Down(node) => return self.lose(&node),
-            Command::Steps(tag) => {
-                self.count(tag)?;
-                Ok(())
-            }
-        };
-        self.behind(outcome)
+            Command::Letter(from, line) => self.hear(&from, line),
+            Command::Down(node) => self.lose(&node),
+            Command::Steps(tag) => self.count(tag),
+        }
     }
 
     /// Prints why a line is refused. Nothing else changes.
     pub(crate) fn refuse(&mut self, refused: &Refused) -> Result<(), AllocError>
-        ensures end { self.new.end ≡ self.old.end }
-        ensures node { self.new.node ≡ self.old.node }
+        ensures { OnOk result (PlaysAt (Refused refused.now.tag refused.now.fault) Runs [] self.old self.new) }
     {
         let Refused { tag, fault } = refused;
         push_refusal(&mut self.output.answers, *tag, fault)
     }
 
     /// Says that something waits to be tried again, where it does.
-    pub(crate) fn show_waiting(&mut self) -> Result<(), AllocError> {
+    pub(crate) fn show_waiting(&mut self) -> Result<(), AllocError>
+        ensures stand { stand_of self.new ≡ stand_of self.old }
+        ensures shown { OnOk result (Grows [] (if owes self.old.node then Waits ∷ [] else []) self.old.output self.new.output) }
+    {
         if self.node.owes() {
             push_wait(&mut self.output.answers)?;
         }
@@ -285,7 +375,13 @@ impl Port {
     }
 
     /// Writes what is to be printed, which isn't any more then.
-    pub(crate) fn write<W: Write>(&mut self, writer: &mut W) -> Result<(), WriteFault> {
+    pub(crate) fn write<W: Write>(&mut self, writer: &mut W) -> Result<(), WriteFault>
+        ensures written { Writes (W.contents writer.old) (W.contents writer.new) result
+            (string_bytes self.old.output.changes ++ (self.old.end.orders ++ (self.old.end.lines ++ string_bytes self.old.output.answers))) }
+        ensures node { self.new.node ≡ self.old.node }
+        ensures end { self.new.end ≡ record self.old.end { lines = []; orders = [] } }
+        ensures empty { OnOk result (IsEmpty self.new.output) }
+    {
         let orders = self.end.take_orders();
         let lines = self.end.take_lines();
         self.output.write(orders.as_str(), lines.as_str(), writer)?;

@@ -104,7 +104,7 @@ fn outcome_text(alloc: Global, outcome: Result<Effect, TaskFault>) -> Result<Str
     ensures { IfOk result (λ text. string_bytes text ≡ ended (any_outcome_text (outcome_of outcome))) }
 {
     match outcome {
-        Ok(Effect::Answered(answer)) => answer_text(alloc, answer),
+        Ok(Effect::Answered(_, answer)) => answer_text(alloc, answer),
         Ok(Effect::Made | Effect::Left) => String::from_str(alloc, "ok\n"),
         Err(fault) => String::from_str(alloc, fault_text(&fault)),
     }

@@ -1,15 +1,16 @@
 //! A node from its first line to its end.
-ghost use Rattle.std.specs.Prelude.{◌≡◌, ◌⊎◌, ℕ, List, true, MatchResult};
-ghost use Rattle.std.specs.Io.KnownBytes.{Appends, Keeps};
-ghost use Rattle.text_lines.specs.Lines.{IsKept};
-ghost use Rattle.text_lines.specs.Writing.{AppendsPart};
+ghost use Rattle.std.specs.Prelude.{◌≡◌, ◌⊎◌, ◌++◌, ℕ, List, true, codes, bytes_eq, MatchResult, OnOk, IfOk};
 ghost use Rattle.std.specs.List.{All};
 ghost use Rattle.std.specs.Io.Buffered.{reader_remaining};
+ghost use Rattle.std.specs.Io.KnownBytes.{Keeps};
+ghost use Rattle.text_lines.specs.Lines.{IsKept};
 ghost use Rattle.term.specs.Nodes.{IsFirst};
 ghost use Rattle.term.specs.NodeSets.{set_of};
-ghost use Rattle.node_port.specs.Playing.{PlaysLine};
-ghost use Rattle.node_port.specs.Ran.{NodeRan, NodeStopped, Printed, printed_text};
-ghost use Rattle.node_port.specs.declared.port.Standing.{Standing as AStanding};
+ghost use Rattle.node_port.specs.Commands.{Taken, IsTaken};
+ghost use Rattle.node_port.specs.Playing.{spent, waiting};
+ghost use Rattle.node_port.specs.Ran.{Ends, NodeRan, NodeStopped};
+ghost use Rattle.node_port.specs.Working.{stand_of, IsEmpty, PlaysAt, PlaysOn, StopsOn, PrintsLine, PrintsPart, OpensBy, StopsBy, TakesNext, StopsNext, Founds, PlaysTo, GoesBehind};
+ghost use Rattle.node_port.specs.declared.port.Standing.TheVariants.{Runs};
 
 use crate::commands::{read_command, says_founds};
 use crate::port::{Port, Standing};
@@ -23,21 +24,37 @@ fn next_line<R: Read, W: Write>(
     room: Vec<u8>,
     reader: &mut BufReader<R, Global>,
     writer: &mut W,
-) -> Result<Option<Line>, StreamFault> {
+) -> Result<Option<Line>, StreamFault>
+    ensures read { MatchResult result
+        (TakesNext (reader_remaining R.remaining reader.old) (reader_remaining R.remaining reader.new))
+        (λ fault. StopsNext (reader_remaining R.remaining reader.old) (reader_remaining R.remaining reader.new)) }
+    ensures kept { Keeps (W.contents writer.old) (W.contents writer.new) }
+{
     let mut left = MOST_LINES;
     read_line(room, reader, writer, &mut left)
 }
 
 /// Does what a line says, or refuses it: how the node stands behind it.
-fn do_line(alloc: Global, port: &mut Port, line: &Line) -> Result<Standing, AllocError> {
+fn take_line(alloc: Global, port: &mut Port, line: &Line) -> Result<Standing, AllocError>
+    ensures { (bytes : List ℕ) → IsKept bytes line.now → IfOk result
+        (λ standing. (taken : Taken) × IsTaken bytes taken × PlaysAt taken standing (spent standing) port.old port.new) }
+{
     let own = port.last_process();
-    let standing = match read_command(alloc, line, own.as_ref()) {
-        Ok(command) => port.play(command)?,
+    match read_command(alloc, line, own.as_ref()) {
+        Ok(command) => port.play(command),
         Err(refused) => {
             port.refuse(&refused)?;
-            Standing::Runs
+            Ok(Standing::Runs)
         }
-    };
+    }
+}
+
+/// The same, and says where something waits to be tried again.
+fn do_line(alloc: Global, port: &mut Port, line: &Line) -> Result<Standing, AllocError>
+    ensures { (bytes : List ℕ) → IsKept bytes line.now → IfOk result
+        (λ standing. (taken : Taken) × IsTaken bytes taken × PlaysAt taken standing (spent standing ++ waiting standing port.new.node) port.old port.new) }
+{
+    let standing = take_line(alloc, port, line)?;
     if let Standing::Runs = standing {
         port.show_waiting()?;
     }
@@ -51,10 +68,12 @@ fn play_line<W: Write>(
     line: &Line,
     writer: &mut W,
 ) -> Result<Standing, StreamFault>
-    ensures { (bytes : List ℕ) → IsKept bytes line.now → MatchResult result
-        (λ standing. (p : Printed) × PlaysLine bytes port.old port.new standing p × Appends (W.contents writer.old) (W.contents writer.new) (printed_text p))
-        (λ fault. Keeps (W.contents writer.old) (W.contents writer.new) ⊎ ((standing : AStanding) × (p : Printed)
-        × PlaysLine bytes port.old port.new standing p × AppendsPart (W.contents writer.old) (W.contents writer.new) (printed_text p))) }
+    requires { IsEmpty port.old.output }
+    ensures played { (bytes : List ℕ) → IsKept bytes line.now → MatchResult result
+        (λ standing. PrintsLine bytes standing (stand_of port.old) (stand_of port.new) (W.contents writer.old) (W.contents writer.new))
+        (λ fault. PrintsPart bytes (stand_of port.old) (W.contents writer.old) (W.contents writer.new)
+        ⊎ Keeps (W.contents writer.old) (W.contents writer.new)) }
+    ensures empty { OnOk result (IsEmpty port.new.output) }
 {
     let standing = do_line(alloc, port, line)?;
     port.write(writer)?;
@@ -67,7 +86,14 @@ fn play_lines<R: Read, W: Write>(
     port: &mut Port,
     reader: &mut BufReader<R, Global>,
     writer: &mut W,
-) -> Result<bool, StreamFault> {
+) -> Result<bool, StreamFault>
+    requires { IsEmpty port.old.output }
+    ensures { MatchResult result
+        (PlaysTo (stand_of port.old) (reader_remaining R.remaining reader.old) (reader_remaining R.remaining reader.new)
+        (W.contents writer.old) (W.contents writer.new) (stand_of port.new))
+        (λ fault. StopsOn (stand_of port.old) (reader_remaining R.remaining reader.old) (reader_remaining R.remaining reader.new)
+        (W.contents writer.old) (W.contents writer.new)) }
+{
     let mut room = Vec::new(alloc);
     for _ in 0..u64::MAX {
         let Some(line) = next_line(room, reader, writer)? else {
@@ -80,7 +106,24 @@ fn play_lines<R: Read, W: Write>(
         }
         room = line.into_room(alloc);
     }
-    Ok(true)
+    Err(StreamFault::TooManyLines)
+}
+
+/// Opens a node that founds its cluster, and writes how it stands.
+fn found<W: Write>(
+    alloc: Global,
+    node: &Node,
+    world: &NodeSet,
+    writer: &mut W,
+) -> Result<Port, StreamFault>
+    requires known { set_of world.now node.now ≡ true }
+    requires first { All IsFirst world.now }
+    ensures { Founds node.now world.now (W.contents writer.old) (W.contents writer.new) result }
+{
+    let mut port = Port::open(alloc, node, world, true)?;
+    port.show_state()?;
+    port.write(writer)?;
+    Ok(port)
 }
 
 /// Opens the node by its first line: that it founds its cluster, or anything else, which is done then. Gives how it stands behind it.
@@ -90,25 +133,51 @@ fn open_by<W: Write>(
     world: &NodeSet,
     line: &Line,
     writer: &mut W,
-) -> Result<(Port, Standing), StreamFault> {
-    let founds = says_founds(line);
-    let mut port = Port::open(alloc, node, world, founds)?;
-    let standing = if founds {
-        port.show_state()?;
-        port.write(writer)?;
-        Standing::Runs
-    } else {
-        play_line(alloc, &mut port, line, writer)?
-    };
+) -> Result<(Port, Standing), StreamFault>
+    requires known { set_of world.now node.now ≡ true }
+    requires first { All IsFirst world.now }
+    ensures opened { (bytes : List ℕ) → IsKept bytes line.now → MatchResult result
+        (λ r. OpensBy (bytes_eq bytes (codes "founds")) node.now world.now bytes r.1 (stand_of r.0) (W.contents writer.old) (W.contents writer.new))
+        (λ fault. StopsBy (bytes_eq bytes (codes "founds")) node.now world.now bytes (W.contents writer.old) (W.contents writer.new)) }
+    ensures empty { IfOk result (λ r. IsEmpty r.0.output) }
+{
+    if says_founds(line) {
+        let port = found(alloc, node, world, writer)?;
+        return Ok((port, Standing::Runs));
+    }
+    let mut port = Port::open(alloc, node, world, false)?;
+    let standing = play_line(alloc, &mut port, line, writer)?;
     Ok((port, standing))
 }
 
+/// Goes on from how a node stands behind its first line: whether no line was out of its place.
+fn go_on<R: Read, W: Write>(
+    alloc: Global,
+    port: &mut Port,
+    standing: Standing,
+    reader: &mut BufReader<R, Global>,
+    writer: &mut W,
+) -> Result<bool, StreamFault>
+    requires { IsEmpty port.old.output }
+    ensures { MatchResult result
+        (λ in_order. GoesBehind standing in_order (stand_of port.old) (reader_remaining R.remaining reader.old) (reader_remaining R.remaining reader.new)
+        (W.contents writer.old) (W.contents writer.new) (stand_of port.new))
+        (λ fault. (standing ≡ Runs) × StopsOn (stand_of port.old) (reader_remaining R.remaining reader.old) (reader_remaining R.remaining reader.new)
+        (W.contents writer.old) (W.contents writer.new)) }
+{
+    match standing {
+        Standing::Runs => play_lines(alloc, port, reader, writer),
+        Standing::HasLeft => Ok(true),
+        Standing::Broken | Standing::Spent => Ok(false),
+    }
+}
+
 /// Runs this node of a world of first nodes by the lines of a reader, until they end or the node has left, and writes what comes of
-/// each: whether each line of a link was the next of it. A line that is refused changes nothing. The first line may say that the node
-/// founds its cluster; else it is lone.
+/// each: whether each line of a link was the next of it, and each step had a stamp. A line that is refused changes nothing. The first
+/// line may say that the node founds its cluster; else it is lone.
 ///
 /// What was written is handed on before the reader waits for more, and in the end. Where lines can't be read or written, or memory is
-/// refused, a part is written of what those print that were done.
+/// refused, a part is written of what those print that were done. The contract can't say when a reader, a writer or an allocator fails.
 pub fn run_node<R: Read, W: Write>(
     alloc: Global,
     node: &Node,
@@ -124,15 +193,13 @@ pub fn run_node<R: Read, W: Write>(
         (NodeStopped node.now world.now (reader_remaining R.remaining reader.old) (reader_remaining R.remaining reader.new)
         (W.contents writer.old) (W.contents writer.new)) }
 {
+    // The set shows that its nodes rise.
+    let _count = world.len();
     let Some(first) = next_line(Vec::new(alloc), reader, writer)? else {
         return Ok(true);
     };
     let (mut port, standing) = open_by(alloc, node, world, &first, writer)?;
-    let in_order = match standing {
-        Standing::Runs => play_lines(alloc, &mut port, reader, writer)?,
-        Standing::HasLeft => true,
-        Standing::Broken | Standing::Spent => false,
-    };
+    let in_order = go_on(alloc, &mut port, standing, reader, writer)?;
     hand_on(writer)?;
     Ok(in_order)
 }

@@ -1,0 +1,191 @@
+-- Lines that are played, one behind the other, and what is printed for them.
+use Rattle.std.proofs.Common.{ℕ, Bool, true, false, ◌≡◌, inl, inr, List, [], ◌∷◌, ◌++◌, map, Option, refl, sym, ap, subst, ◌∙◌, append-nil, string_bytes}
+use Rattle.std.specs.Prelude.{flat_map, ◌⊎◌}
+use Rattle.std.specs.Io.KnownBytes.{Appends, Keeps}
+use Rattle.std.proofs.KnownBytes.{Appends-nil, Appends-trans, Appends-kept}
+use Rattle.std.proofs.lemmas.Grind.{flat_map-append}
+use Rattle.text_lines.specs.Lines.{LosesLines, LosesWithinLine}
+use Rattle.text_lines.specs.Writing.{AppendsPart}
+use Rattle.text_lines.proofs.Known.{LosesLines-nil, LosesLines-trans, LosesInto-whole}
+use Rattle.text_lines.proofs.Written.{AppendsPart-behind, AppendsPart-whole}
+use Rattle.wire_end.specs.declared.wire_end.Wiring.{Wiring}
+use Rattle.node_port.specs.Commands.{Taken, IsTaken}
+use Rattle.node_port.specs.Deeds.{Stand, changes_by, replies_by}
+use Rattle.node_port.specs.Edits.{changed_lines}
+use Rattle.node_port.specs.Playing.{Printed, printed_text, printed_by, printed_out, said, spent, waiting, PlaysLine, MoreOnly, PlaysAll}
+use Rattle.node_port.specs.Shown.{Shown, Tells, shown_lines}
+use Rattle.node_port.specs.Working.{stand_of, IsEmpty, PlaysAt, PlaysOn, StopsOn, PrintsLine, PrintsPart, StopsNext}
+use Rattle.node_port.specs.declared.port.Port.{Port}
+use Rattle.node_port.specs.declared.port.Standing.{Standing}
+use Rattle.node_port.specs.declared.port.Standing.TheVariants.{Runs, HasLeft, Broken, Spent}
+use Rattle.node_port.proofs.Printing.{changes_now, answers_now}
+
+-- a line that was done at a node is printed
+module _ (bytes : List ℕ) (taken : Taken) (s : Standing) (a b c : Port) (says : IsTaken bytes taken) (empty : IsEmpty a.output)
+    (P : PlaysAt taken s (spent s ++ waiting s b.node) a b) where
+  printed : Printed
+  printed = printed_by s taken (stand_of a) P.deeds (stand_of b)
+
+  -- so its text is that
+  pub text_is : string_bytes b.output.changes ++ (b.end.orders ++ (b.end.lines ++ string_bytes b.output.answers)) ≡ printed_text printed
+  text_is =
+      ap (λ (t : List ℕ). t ++ (b.end.orders ++ (b.end.lines ++ string_bytes b.output.answers)))
+      (changes_now (changes_by P.deeds) answered a.output b.output empty P.grows)
+      ∙ ap (λ (t : List ℕ). shown_lines (changed_lines (changes_by P.deeds)) ++ (b.end.orders ++ (b.end.lines ++ t)))
+      (answers_now (changes_by P.deeds) answered a.output b.output empty P.grows)
+    where
+      answered : List Shown
+      answered = map Tells (replies_by P.deeds) ++ (said taken a.node ++ (spent s ++ waiting s b.node))
+
+  line_played : c.node ≡ b.node → c.end ≡ record b.end { lines = []; orders = [] } → PlaysLine bytes s (stand_of a) printed (stand_of c)
+  line_played loop end = record {
+    taken = taken;
+    says = says;
+    first = P.first;
+    gives = P.gives;
+    deeds = P.deeds;
+    last = stand_of b;
+    does = P.does;
+    done = P.done;
+    ends = P.ends;
+    shown = P.shown;
+    prints = refl;
+    behind = λ j. record { loop = loop j; end = end j };
+  }
+
+  pub prints : (old new : Option (List ℕ)) → c.node ≡ b.node → c.end ≡ record b.end { lines = []; orders = [] }
+      → Appends old new (string_bytes b.output.changes ++ (b.end.orders ++ (b.end.lines ++ string_bytes b.output.answers)))
+      → PrintsLine bytes s (stand_of a) (stand_of c) old new
+  prints old new loop end w =
+      record { p = printed; plays = line_played loop end; wrote = subst (λ (t : List ℕ). Appends old new t) text_is w }
+
+  pub prints_part : (old new : Option (List ℕ)) → c.node ≡ b.node → c.end ≡ record b.end { lines = []; orders = [] }
+      → AppendsPart old new (string_bytes b.output.changes ++ (b.end.orders ++ (b.end.lines ++ string_bytes b.output.answers)))
+      → PrintsPart bytes (stand_of a) old new
+  prints_part old new loop end w = record {
+    standing = s;
+    stand = stand_of c;
+    p = printed;
+    plays = line_played loop end;
+    wrote = subst (λ (t : List ℕ). AppendsPart old new t) text_is w;
+  }
+
+-- a line behind others
+last_of : (s : Standing) (c : Stand) → MoreOnly s s [] [] c c (PlaysAll [] s c [] c)
+last_of Runs c = (refl, refl, refl)
+last_of HasLeft c = (refl, refl, refl, refl)
+last_of Broken c = (refl, refl, refl, refl)
+last_of Spent c = (refl, refl, refl, refl)
+
+pub plays_more : (ls : List (List ℕ)) (a b c : Stand) (out : List Printed) (s : Standing) (l : List ℕ) (p : Printed)
+    → PlaysAll ls Runs a out b → PlaysLine l s b p c → PlaysAll (ls ++ l ∷ []) s a (out ++ p ∷ []) c
+plays_more [] a b c out s l p h L = (
+  p,
+  [],
+  ap (λ (xs : List Printed). xs ++ p ∷ []) h.1,
+  s,
+  c,
+  subst (λ (x : Stand). PlaysLine l s x p c) h.2 L,
+  last_of s c,
+)
+plays_more (m ∷ ls) a b c out s l p h L =
+    (h.0, h.1 ++ p ∷ [], ap (λ (xs : List Printed). xs ++ p ∷ []) h.2, h.3, h.4, h.5, go h.3 h.6)
+  where
+    go : (stands : Standing) → MoreOnly stands Runs ls h.1 h.4 b (PlaysAll ls Runs h.4 h.1 b)
+        → MoreOnly stands s (ls ++ l ∷ []) (h.1 ++ p ∷ []) h.4 c (PlaysAll (ls ++ l ∷ []) s h.4 (h.1 ++ p ∷ []) c)
+    go Runs more = plays_more ls h.4 b c h.1 s l p more L
+    go HasLeft more = absurd (cc (more.0))
+    go Broken more = absurd (cc (more.0))
+    go Spent more = absurd (cc (more.0))
+
+pub text_more : (out : List Printed) (p : Printed) → flat_map printed_text (out ++ p ∷ []) ≡ flat_map printed_text out ++ printed_text p
+text_more out p =
+    flat_map-append printed_text out (p ∷ []) ∙ ap (λ (t : List ℕ). flat_map printed_text out ++ t) (append-nil (printed_text p))
+
+-- the lines of an input
+pub plays_none : (a : Stand) (input old : Option (List ℕ)) → PlaysOn a input input old old Runs a
+plays_none a input old = record {
+  lines = [];
+  lost = LosesLines-nil input;
+  out = [];
+  plays = (refl, refl, refl);
+  wrote = Appends-nil old;
+}
+
+module _ (a b : Stand) (input mid rest old w1 w2 : Option (List ℕ)) (P : PlaysOn a input mid old w1 Runs b) (kept : Keeps w1 w2) where
+  -- no line is left
+  pub plays_end : LosesLines mid rest [] → PlaysOn a input rest old w2 Runs b
+  plays_end lost = record {
+    lines = P.lines;
+    lost = subst (λ (ls : List (List ℕ)). LosesLines input rest ls) (append-nil P.lines) (LosesLines-trans input mid rest P.lines [] P.lost lost);
+    out = P.out;
+    plays = P.plays;
+    wrote = Appends-kept old w1 w2 _ P.wrote kept;
+  }
+
+  part_of_all : AppendsPart old w2 (flat_map printed_text P.out)
+  part_of_all =
+      subst (λ (t : List ℕ). AppendsPart old w2 t) (append-nil (flat_map printed_text P.out))
+      (AppendsPart-whole old w2 (flat_map printed_text P.out) [] (Appends-kept old w1 w2 _ P.wrote kept))
+
+  -- the next can't be read
+  pub stops_read : StopsNext mid rest → StopsOn a input rest old w2
+  stops_read t = record {
+    lines = P.lines;
+    part = t.0;
+    read = (mid, P.lost, t.1);
+    out = P.out;
+    standing = Runs;
+    stand = b;
+    plays = P.plays;
+    wrote = part_of_all;
+  }
+
+  -- there are too many
+  pub stops_here : Keeps mid rest → LosesLines mid rest [] → StopsOn a input rest old w2
+  stops_here k lost =
+      let Q = plays_end lost in record {
+        lines = Q.lines;
+        part = [];
+        read = LosesInto-whole input rest Q.lines Q.lost;
+        out = Q.out;
+        standing = Runs;
+        stand = b;
+        plays = Q.plays;
+        wrote = part_of_all;
+      }
+
+  module _ (line : List ℕ) (lost : LosesLines mid rest (line ∷ [])) where
+    pub plays_line : (s : Standing) (c : Stand) (w3 : Option (List ℕ)) → PrintsLine line s b c w2 w3 → PlaysOn a input rest old w3 s c
+    plays_line s c w3 L = record {
+      lines = P.lines ++ line ∷ [];
+      lost = LosesLines-trans input mid rest P.lines (line ∷ []) P.lost lost;
+      out = P.out ++ L.p ∷ [];
+      plays = plays_more P.lines a b c P.out s line L.p P.plays L.plays;
+      wrote = subst (λ (t : List ℕ). Appends old w3 t) (sym (text_more P.out L.p))
+          (Appends-trans old w2 w3 (flat_map printed_text P.out) (printed_text L.p) (Appends-kept old w1 w2 _ P.wrote kept) L.wrote);
+    }
+
+    pub stops_line : (w3 : Option (List ℕ)) → LosesWithinLine mid rest → PrintsPart line b w2 w3 ⊎ Keeps w2 w3 → StopsOn a input rest old w3
+    stops_line w3 within (inl L) = record {
+      lines = P.lines ++ line ∷ [];
+      part = [];
+      read = LosesInto-whole input rest (P.lines ++ line ∷ []) (LosesLines-trans input mid rest P.lines (line ∷ []) P.lost lost);
+      out = P.out ++ L.p ∷ [];
+      standing = L.standing;
+      stand = L.stand;
+      plays = plays_more P.lines a b L.stand P.out L.standing line L.p P.plays L.plays;
+      wrote = subst (λ (t : List ℕ). AppendsPart old w3 t) (sym (text_more P.out L.p))
+          (AppendsPart-behind old w2 w3 (flat_map printed_text P.out) (printed_text L.p) (Appends-kept old w1 w2 _ P.wrote kept) L.wrote);
+    }
+    stops_line w3 within (inr same) = record {
+      lines = P.lines;
+      part = within.0;
+      read = (mid, P.lost, within.1);
+      out = P.out;
+      standing = Runs;
+      stand = b;
+      plays = P.plays;
+      wrote = subst (λ (t : List ℕ). AppendsPart old w3 t) (append-nil (flat_map printed_text P.out))
+          (AppendsPart-whole old w3 (flat_map printed_text P.out) [] (Appends-kept old w2 w3 _ (Appends-kept old w1 w2 _ P.wrote kept) same));
+    }
