@@ -48,7 +48,7 @@ module _ (bytes : List ℕ) (taken : Taken) (s : Standing) (a b c : Port) (says 
     does = P.does;
     done = P.done;
     ends = P.ends;
-    shown = P.shown;
+    told = P.told;
     prints = refl;
     behind = λ j. record { loop = loop j; end = end j };
   }

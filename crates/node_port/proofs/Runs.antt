@@ -13,7 +13,7 @@ use Rattle.node_loop.specs.declared.edit.Update.{Update}
 use Rattle.node_loop.specs.Answers.{LogsAnswer}
 use Rattle.node_loop.specs.Coming.{begun, IsLoopOf}
 use Rattle.node_loop.specs.Editions.{opening}
-use Rattle.node_loop.specs.Held.{Looping, Written, owes}
+use Rattle.node_loop.specs.Held.{Looping, Written}
 use Rattle.node_loop.specs.NodeCoreHeld.{Held, fresh}
 use Rattle.node_loop.specs.Openings.{opening_core}
 use Rattle.node_loop.specs.Owing.{LeadsTo, Owes, shown_by}
@@ -24,9 +24,9 @@ use Rattle.wire_end.specs.Order.{InOrder}
 use Rattle.wire_end.specs.Wirings.{place, wire_at, begun as begun_end}
 use Rattle.wire_end.proofs.Ordering.{stay_in_order}
 use Rattle.node_port.specs.Commands.{Taken, Follows, Refused, Strange, Misplaced, IsTaken}
-use Rattle.node_port.specs.Deeds.{Stand, changes_by, replies_by}
+use Rattle.node_port.specs.Deeds.{Stand, IsAllTold, changes_by, replies_by}
 use Rattle.node_port.specs.Edits.{updates_of}
-use Rattle.node_port.specs.Playing.{Printed, Gives, printed_out, said, spent, waiting, PlaysLine, MoreOnly, PlaysAll}
+use Rattle.node_port.specs.Playing.{Printed, Gives, printed_out, said, spent, is_waiting, waiting, PlaysLine, MoreOnly, PlaysAll}
 use Rattle.node_port.specs.Ran.{ReadsOne, Reads, all_updates, all_letters, all_answers, IsGiven, IsRun, core_of, opened_so, shown_behind}
 use Rattle.node_port.specs.Shown.{Shown, Tells, Counts, Gaps, Misses, Waits, Spends}
 use Rattle.node_port.specs.declared.commands.Command.TheVariants.{Ask, Steps, Letter, Down, Tick}
@@ -154,14 +154,11 @@ module _ (log : Written) where
   spent_given Spent = All-cons (IsGiven log) Spends [] tt (All-nil (IsGiven log))
 
   waiting_given : (s : Standing) (loop : Looping) → All (IsGiven log) (waiting s loop)
-  waiting_given Runs loop = go (owes loop)
+  waiting_given s loop = go (is_waiting s loop)
     where
       go : (b : Bool) → All (IsGiven log) (if b then Waits ∷ [] else [])
       go true = All-cons (IsGiven log) Waits [] tt (All-nil (IsGiven log))
       go false = All-nil (IsGiven log)
-  waiting_given HasLeft loop = All-nil (IsGiven log)
-  waiting_given Broken loop = All-nil (IsGiven log)
-  waiting_given Spent loop = All-nil (IsGiven log)
 
   others_given : (s : Standing) (taken : Taken) (first last : Looping) → All (IsGiven log) (said taken first ++ (spent s ++ waiting s last))
   others_given s taken first last =
@@ -207,16 +204,15 @@ line_leads bytes s a p b L =
         (leads_on (reads_by L.taken) [] [] L.last.end.lines [] (updates_of (changes_by L.deeds)) [] (map Tells (replies_by L.deeds)) a L.first b
         (gives_lead L.taken a L.first L.gives) done)
 
-line_shown : (bytes : List ℕ) (s : Standing) (a : Stand) (p : Printed) (b : Stand) → PlaysLine bytes s a p b → a.loop.owed.note ≡ Nothing
-    → b.loop.owed.note ≡ Nothing
-line_shown bytes s a p b L e = ap (λ (x : Stand). x.loop.owed.note) L.behind ∙ L.shown e
+line_told : (bytes : List ℕ) (s : Standing) (a : Stand) (p : Printed) (b : Stand) → PlaysLine bytes s a p b → IsAllTold a.loop → IsAllTold b.loop
+line_told bytes s a p b L e = subst (λ (x : Stand). IsAllTold x.loop) (sym L.behind) (L.told e)
 
 -- lines, one behind the other
 pub record Comes (ls : List (List ℕ)) (out : List Printed) (a c : Stand) : Type 0 where
   pub reads : List (ℕ × LinkLine)
   pub read : Reads ls reads
   pub leads : Leads reads (all_letters out) (all_updates out) (all_answers out) a c
-  pub shown : a.loop.owed.note ≡ Nothing → c.loop.owed.note ≡ Nothing
+  pub told : IsAllTold a.loop → IsAllTold c.loop
 
 comes_more : (l : List ℕ) (ls : List (List ℕ)) (s : Standing) (p : Printed) (rest : List Printed) (a b c : Stand) → PlaysLine l s a p b → Comes ls rest b c
     → Comes (l ∷ ls) (p ∷ rest) a c
@@ -225,11 +221,11 @@ comes_more l ls s p rest a b c L C = record {
   read = (reads_by L.taken, C.reads, refl, one_read l L.taken L.says, C.read);
   leads = leads_on (reads_by L.taken) C.reads p.letters (all_letters rest) (updates_of p.changes) (all_updates rest) p.answers (all_answers rest) a b c
       (line_leads l s a p b L) C.leads;
-  shown = λ e. C.shown (line_shown l s a p b L e);
+  told = λ e. C.told (line_told l s a p b L e);
 }
 
 comes_none : (a : Stand) → Comes [] [] a a
-comes_none a = record { reads = []; read = refl; leads = leads_none a; shown = λ e. e }
+comes_none a = record { reads = []; read = refl; leads = leads_none a; told = λ e. e }
 
 pub lines_come : (ls : List (List ℕ)) (s : Standing) (a : Stand) (out : List Printed) (c : Stand) → PlaysAll ls s a out c → Comes ls out a c
 lines_come [] s a out c h =
@@ -278,7 +274,8 @@ is_run node world founds rising ls s out b P =
       sound = λ o I opens. lines_sound o ls s (opened_so node world founds) out b P (opens_sound o node world founds rising I opens);
       read = subst (Reads ls) (sym C.leads.read) C.read;
       order = C.leads.order [] (stay_in_order.begins node world);
-      shown = all_shown b.loop (shown_behind (opening node) (all_updates out)) (C.leads.owes (opening node) (opens_owing node world founds)) (C.shown refl);
+      shown = all_shown b.loop (shown_behind (opening node) (all_updates out)) (C.leads.owes (opening node) (opens_owing node world founds)) (C.told (refl, refl)).0;
       came = C.leads.came node (opens_loop node world founds);
+      told = (C.told (refl, refl)).1;
       answered = C.leads.given node (opens_loop node world founds);
     }

@@ -8,7 +8,6 @@ use Rattle.std.proofs.lemmas.List.{map-append}
 use Rattle.std.proofs.lemmas.List.Folds.{list_all-append}
 use Rattle.command_lines.specs.declared.faults.LineFault.{LineFault}
 use Rattle.letter_lines.specs.declared.faults.LetterFault.TheVariants as letter
-use Rattle.node_loop.specs.declared.edit.Note.TheVariants.{Nothing}
 use Rattle.node_loop.specs.declared.fault.TurnFault.TheVariants.{StampsSpent, Memory}
 use Rattle.node_loop.specs.Held.{Looping}
 use Rattle.node_loop.specs.Steps.{Outcome}
@@ -20,7 +19,7 @@ use Rattle.wire_end.specs.declared.wire_end.Wiring.{Wiring}
 use Rattle.wire_end.specs.Hearing.{Hears, RefusesAt, Loses, LosesAt}
 use Rattle.wire_end.specs.Wirings.{place}
 use Rattle.node_port.specs.Commands.{Taken, Follows, Refused, Strange, Misplaced, TakenAs, is_done}
-use Rattle.node_port.specs.Deeds.{Stand, Deed, Turn, Show, Hand, Does, DoesAll, BreaksOff, change_by, changes_by, reply_by, replies_by, goes_on, all_go_on, is_still}
+use Rattle.node_port.specs.Deeds.{Stand, Deed, Turn, Show, Hand, Does, DoesAll, BreaksOff, IsAllTold, change_by, changes_by, reply_by, replies_by, goes_on, all_go_on, is_still}
 use Rattle.node_port.specs.Edits.{Changed}
 use Rattle.node_port.specs.Playing.{Gives, EndsFor, IsMisplaced, said, spent, waiting}
 use Rattle.node_port.specs.Shown.{Shown, Tells, Spends}
@@ -41,7 +40,7 @@ pub replies_more : (ds es : List Deed) → map Tells (replies_by (ds ++ es)) ≡
 replies_more ds es = ap (λ (ts : List Told). map Tells ts) (flat_map-append reply_by ds es) ∙ map-append Tells (replies_by ds) (replies_by es)
 
 pub works_none : (a : Port) → Works [] a a
-works_none a = record { does = refl; grows = grows_none a.output; shown = λ e. e }
+works_none a = record { does = refl; grows = grows_none a.output; told = λ e. e }
 
 pub works_on : (ds es : List Deed) (a b c : Port) → Works ds a b → Works es b c → Works (ds ++ es) a c
 works_on ds es a b c W V = record {
@@ -49,7 +48,7 @@ works_on ds es a b c W V = record {
   grows = grows_as (changes_by ds ++ changes_by es) (changes_by (ds ++ es)) (map Tells (replies_by ds) ++ map Tells (replies_by es)) (map Tells (replies_by (ds ++ es)))
       a.output c.output (sym (flat_map-append change_by ds es)) (sym (replies_more ds es))
       (grows_on (changes_by ds) (changes_by es) (map Tells (replies_by ds)) (map Tells (replies_by es)) a.output b.output c.output W.grows V.grows);
-  shown = λ e. V.shown (W.shown e);
+  told = λ e. V.told (W.told e);
 }
 
 pub go_on_more : (ds es : List Deed) → all_go_on ds ≡ true → all_go_on es ≡ true → all_go_on (ds ++ es) ≡ true
@@ -75,13 +74,11 @@ breaks_behind ds es e B = record {
 }
 
 -- shown, and more shown
-pub shows_on : (a b c : Port) → ShowsAll a b → ShowsStill b c → ShowsAll a c
-shows_on a b c S T = record {
-  deeds = S.deeds ++ T.0;
-  works = works_on S.deeds T.0 a b c S.works T.1;
-  still = still_more S.deeds T.0 S.still T.2;
-  all = T.1.shown S.all;
-}
+pub shows_on : (a b c : Port) → ShowsStill a b → ShowsStill b c → ShowsStill a c
+shows_on a b c S T = (S.0 ++ T.0, works_on S.0 T.0 a b c S.1 T.1, still_more S.0 T.0 S.2 T.2)
+
+pub shows_all : (a b : Port) → ShowsStill a b → IsAllTold b.node → ShowsAll a b
+shows_all a b S all = record { deeds = S.0; works = S.1; still = S.2; all = all }
 
 -- turns
 pub goes_nowhere : (a : Port) → GoesOn a a
@@ -103,7 +100,7 @@ turned r a m b T same S = go r T
     works q T = record {
       does = (stand_of m, T, S.works.does);
       grows = grows_from (changes_by S.deeds) (map Tells (replies_by S.deeds)) a.output m.output b.output same S.works.grows;
-      shown = λ e. S.all;
+      told = λ e. S.all;
     }
 
     go : (q : Outcome) → Does (Turn q) (stand_of a) (stand_of m) → ComesTo q a b
@@ -125,13 +122,13 @@ settles (Ok u) s a m b C K =
         (sym (append-nil (map Tells (replies_by C.0)))) C.1.grows
 
     go : (l : Bool) → m.node.left ≡ l → Settles (stands_behind l) a m
-    go true e = record { deeds = C.0; does = C.1.does; ends = (C.2, e); shown = C.1.shown; grows = grown }
-    go false e = record { deeds = C.0; does = C.1.does; ends = C.2; shown = C.1.shown; grows = grown }
+    go true e = record { deeds = C.0; does = C.1.does; ends = (C.2, e); told = C.1.told; grows = grown }
+    go false e = record { deeds = C.0; does = C.1.does; ends = C.2; told = C.1.told; grows = grown }
 settles (Err StampsSpent) s a m b C K = subst (λ (x : Standing). Settles x a b) (sym K.0) (record {
   deeds = C.0;
   does = subst (λ (x : Stand). DoesAll C.0 (stand_of a) x) (sym K.1) C.1.does;
   ends = C.2;
-  shown = λ e. ap (λ (x : Stand). x.loop.owed.note) K.1 ∙ C.1.shown e;
+  told = λ e. subst (λ (x : Stand). IsAllTold x.loop) (sym K.1) (C.1.told e);
   grows = grows_as (changes_by C.0 ++ []) (changes_by C.0) (map Tells (replies_by C.0) ++ Spends ∷ []) (map Tells (replies_by C.0) ++ Spends ∷ []) a.output b.output
       (append-nil (changes_by C.0)) refl
       (grows_on (changes_by C.0) [] (map Tells (replies_by C.0)) (Spends ∷ []) a.output m.output b.output C.1.grows K.2);
@@ -154,7 +151,7 @@ plays taken s a first b given loop output silent done S = record {
   does = S.does;
   done = λ e. absurd (true≢false (sym done ∙ e));
   ends = ends_for s taken S.deeds b.node S.ends;
-  shown = λ e. S.shown (ap (λ (l : Looping). l.owed.note) loop ∙ e);
+  told = λ e. S.told (subst (λ (l : Looping). IsAllTold l) (sym loop) e);
   grows = grows_from (changes_by S.deeds) (map Tells (replies_by S.deeds) ++ (said taken a.node ++ spent s)) a.output first.output b.output output
       (grows_as (changes_by S.deeds) (changes_by S.deeds) (map Tells (replies_by S.deeds) ++ spent s) (map Tells (replies_by S.deeds) ++ (said taken a.node ++ spent s))
       first.output b.output refl
@@ -171,7 +168,7 @@ answers taken s more a b given same ends G = record {
   does = same;
   done = λ e. refl;
   ends = subst (λ (x : Stand). EndsFor s taken [] x.loop) (sym same) ends;
-  shown = λ e. ap (λ (x : Stand). x.loop.owed.note) same ∙ e;
+  told = λ e. subst (λ (x : Stand). IsAllTold x.loop) (sym same) e;
   grows = G;
 }
 
@@ -249,7 +246,7 @@ waits taken s more w a b c P same G = record {
   does = subst (λ (x : Stand). DoesAll P.deeds P.first x) (sym same) P.does;
   done = P.done;
   ends = subst (λ (x : Stand). EndsFor s taken P.deeds x.loop) (sym same) P.ends;
-  shown = λ e. ap (λ (x : Stand). x.loop.owed.note) same ∙ P.shown e;
+  told = λ e. subst (λ (x : Stand). IsAllTold x.loop) (sym same) (P.told e);
   grows = grows_as (changes_by P.deeds ++ []) (changes_by P.deeds) (said_so ++ w) (map Tells (replies_by P.deeds) ++ (said taken a.node ++ (more ++ w)))
       a.output c.output (append-nil (changes_by P.deeds)) together
       (grows_on (changes_by P.deeds) [] said_so w a.output b.output c.output P.grows G);

@@ -1,6 +1,7 @@
 -- What a node does between a line that it reads and what it prints for it.
 use Rattle.std.specs.Prelude.{ℕ, Bool, true, false, ◌≡◌, Option, Some, Ok, Err, List, [], ◌∷◌, ◌++◌, flat_map}
 use Rattle.std.specs.List.{list_all}
+use Rattle.node_loop.specs.declared.edit.Note.TheVariants.{Nothing}
 use Rattle.node_loop.specs.declared.fault.TurnFault.TheVariants.{StampsSpent}
 use Rattle.node_loop.specs.Told.{Told}
 use Rattle.node_loop.specs.Held.{Looping}
@@ -40,6 +41,10 @@ Does (Hand told) a b = IsHanded told a.loop b.loop × (b.end ≡ a.end)
 abbrev pub DoesAll : List Deed → Stand → Stand → Type 0
 DoesAll [] a b = b ≡ a
 DoesAll (d ∷ ds) a c = (b : Stand) × Does d a b × DoesAll ds b c
+
+-- nothing is owed to readers of the table, and no reply waits
+abbrev pub IsAllTold : Looping → Type 0
+IsAllTold a = (a.owed.note ≡ Nothing) × (a.desk.replies ≡ [])
 
 -- what is shown
 abbrev pub change_by : Deed → List Changed

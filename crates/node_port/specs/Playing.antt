@@ -1,13 +1,12 @@
 -- What the lines come to that a node reads, one behind the other.
-use Rattle.std.specs.Prelude.{ℕ, true, false, ◌≡◌, map, length, List, [], ◌∷◌, ◌++◌, Some, Ok, Err, if◌then◌else◌}
+use Rattle.std.specs.Prelude.{ℕ, Bool, true, false, ◌≡◌, map, length, List, [], ◌∷◌, ◌++◌, Some, Ok, Err, if◌then◌else◌}
 use Rattle.node_loop.specs.declared.Event.{Event}
 use Rattle.node_loop.specs.declared.item.Task.{Task}
-use Rattle.node_loop.specs.declared.edit.Note.TheVariants.{Nothing}
 use Rattle.node_loop.specs.Held.{Looping, owes}
 use Rattle.wire_end.specs.declared.faults.HearFault.TheVariants.{Gap}
 use Rattle.wire_end.specs.Hearing.{Hears, Loses}
 use Rattle.node_port.specs.Commands.{Taken, Follows, Refused, Strange, Misplaced, IsTaken, is_done}
-use Rattle.node_port.specs.Deeds.{Stand, Deed, DoesAll, BreaksOff, changes_by, replies_by, all_go_on}
+use Rattle.node_port.specs.Deeds.{Stand, Deed, DoesAll, BreaksOff, IsAllTold, changes_by, replies_by, all_go_on}
 use Rattle.node_port.specs.Edits.{Changed, changed_lines}
 use Rattle.node_port.specs.Shown.{Shown, Tells, Counts, Gaps, Misses, Waits, Spends, shown_lines}
 use Rattle.node_port.specs.Shown as line
@@ -40,9 +39,12 @@ abbrev pub spent : Standing → List Shown
 spent Spent = Spends ∷ []
 spent _ = []
 
+abbrev pub is_waiting : Standing → Looping → Bool
+is_waiting Runs loop = owes loop
+is_waiting _ loop = false
+
 abbrev pub waiting : Standing → Looping → List Shown
-waiting Runs loop = if owes loop then Waits ∷ [] else []
-waiting _ loop = []
+waiting standing loop = if is_waiting standing loop then Waits ∷ [] else []
 
 abbrev pub IsMisplaced : Taken → Type 0
 IsMisplaced (Misplaced from line) = Unit {0}
@@ -91,7 +93,7 @@ pub record PlaysLine (bytes : List ℕ) (standing : Standing) (a : Stand) (p : P
   pub does : DoesAll deeds first last
   pub done : is_done taken ≡ false → deeds ≡ []
   pub ends : EndsFor standing taken deeds last.loop
-  pub shown : a.loop.owed.note ≡ Nothing → last.loop.owed.note ≡ Nothing
+  pub told : IsAllTold a.loop → IsAllTold last.loop
   pub prints : p ≡ printed_by standing taken a deeds last
   pub behind : b ≡ printed_out last
 

@@ -65,7 +65,7 @@ IsGiven log _ = Unit {0}
 -- is sound, or ended so, with the letters that its end took and sent. The lines of its links that were read are among these lines, in
 -- their order; they spell what came of each other node, and the lines of letters that were printed are those of the letters that were
 -- sent. The changes that were printed, one behind the other, make of no table the one that the node has. And each answer that was
--- printed was given by a step of the node's log, with its stamp
+-- printed was given by a step of the node's log, with its stamp, and no reply is left that wasn't printed
 pub record IsRun (core : Held) (lines : List (List ℕ)) (standing : Standing) (out : List Printed) (b : Stand) : Type 0 where
   pub node : b.end.node ≡ core.name
   pub sound : (o : Opening) → IsNodeOf o core → node_of core ≡ opened o core → IsSoundIn standing o b
@@ -73,6 +73,7 @@ pub record IsRun (core : Held) (lines : List (List ℕ)) (standing : Standing) (
   pub order : InOrder (all_letters out) b.end
   pub shown : shown_behind (opening core.name) (all_updates out) ≡ shown_by b.loop
   pub came : IsLoopOf core.name b.loop
+  pub told : b.loop.desk.replies ≡ []
   pub answered : All (IsGiven b.loop.log) (all_answers out)
 
 -- the first of these lines says that the node founds its cluster

@@ -8,14 +8,13 @@ use Rattle.text_lines.specs.declared.lines.Line.{Line}
 use Rattle.text_lines.specs.Lines.{IsKept, LosesLines, LosesInto, LosesWithinLine, HasNoLine}
 use Rattle.text_lines.specs.Writing.{AppendsPart}
 use Rattle.text_lines.specs.declared.faults.StreamFault.{StreamFault}
-use Rattle.node_loop.specs.declared.edit.Note.TheVariants.{Nothing}
 use Rattle.node_loop.specs.declared.fault.TurnFault.TheVariants.{StampsSpent, Memory}
 use Rattle.node_loop.specs.Held.{Looping}
 use Rattle.node_loop.specs.Steps.{Outcome}
 use Rattle.wire_end.specs.declared.faults.HearFault.{HearFault}
 use Rattle.wire_end.specs.declared.faults.HearFault.TheVariants.{NoSuchNode, Gap, Part}
 use Rattle.node_port.specs.Commands.{Taken, is_done}
-use Rattle.node_port.specs.Deeds.{Stand, Deed, DoesAll, BreaksOff, changes_by, replies_by, all_go_on, is_still}
+use Rattle.node_port.specs.Deeds.{Stand, Deed, DoesAll, BreaksOff, IsAllTold, changes_by, replies_by, all_go_on, is_still}
 use Rattle.node_port.specs.Edits.{Changed, changed_lines}
 use Rattle.node_port.specs.Playing.{Gives, Printed, PlaysLine, PlaysAll, EndsFor, said, spent, printed_text}
 use Rattle.node_port.specs.Ran.{Ends, first_text, opened_so}
@@ -42,14 +41,14 @@ IsEmpty a = (string_bytes a.changes ≡ []) × (string_bytes a.answers ≡ [])
 pub record Works (deeds : List Deed) (a b : Port) : Type 0 where
   pub does : DoesAll deeds (stand_of a) (stand_of b)
   pub grows : Grows (changes_by deeds) (map Tells (replies_by deeds)) a.output b.output
-  pub shown : a.node.owed.note ≡ Nothing → b.node.owed.note ≡ Nothing
+  pub told : IsAllTold a.node → IsAllTold b.node
 
 -- what its last turn did is shown, and owed no more
 pub record ShowsAll (a b : Port) : Type 0 where
   pub deeds : List Deed
   pub works : Works deeds a b
   pub still : list_all is_still deeds ≡ true
-  pub all : b.node.owed.note ≡ Nothing
+  pub all : IsAllTold b.node
 
 -- replies are handed out, or it is shown how the node stands
 abbrev pub ShowsStill : Port → Port → Type 0
@@ -87,7 +86,7 @@ pub record Settles (standing : Standing) (a b : Port) : Type 0 where
   pub deeds : List Deed
   pub does : DoesAll deeds (stand_of a) (stand_of b)
   pub ends : EndsIn standing deeds b.node
-  pub shown : a.node.owed.note ≡ Nothing → b.node.owed.note ≡ Nothing
+  pub told : IsAllTold a.node → IsAllTold b.node
   pub grows : Grows (changes_by deeds) (map Tells (replies_by deeds) ++ spent standing) a.output b.output
 
 -- a line of a link, or the word that a node is gone, isn't taken for this fault, and the node says so; where memory was refused it ends
@@ -105,7 +104,7 @@ pub record PlaysAt (taken : Taken) (standing : Standing) (more : List Shown) (a 
   pub does : DoesAll deeds first (stand_of b)
   pub done : is_done taken ≡ false → deeds ≡ []
   pub ends : EndsFor standing taken deeds b.node
-  pub shown : a.node.owed.note ≡ Nothing → b.node.owed.note ≡ Nothing
+  pub told : IsAllTold a.node → IsAllTold b.node
   pub grows : Grows (changes_by deeds) (map Tells (replies_by deeds) ++ (said taken a.node ++ more)) a.output b.output
 
 -- lines of the input are played from where a node stands, and what comes of them is printed

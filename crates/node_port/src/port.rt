@@ -102,13 +102,12 @@ fn task_of(tag: u64, event: Event) -> Task
 impl Port {
     ghost use Rattle.std.specs.Prelude.{◌≡◌, ◌∷◌, ◌++◌, [], true, ℕ, List, None, OnOk, IfOk, string_bytes, if◌then◌else◌};
     ghost use Rattle.text_lines.specs.Writing.{Writes};
-    ghost use Rattle.node_loop.specs.Held.{owes};
+    ghost use Rattle.node_loop.specs.declared.edit.Note.TheVariants.{Nothing};
     ghost use Rattle.wire_end.specs.declared.faults.HearFault.{HearFault};
     ghost use Rattle.node_port.specs.Commands.{Taken, Follows, Refused, TakenAs};
     ghost use Rattle.node_port.specs.Deeds.{Does, Turn};
     ghost use Rattle.node_port.specs.Edits.{Stood};
-    ghost use Rattle.node_port.specs.Playing.{spent};
-    ghost use Rattle.node_port.specs.Shown.{Waits};
+    ghost use Rattle.node_port.specs.Playing.{spent, is_waiting, waiting};
     ghost use Rattle.node_port.specs.Working.{stand_of, Grows, IsEmpty, ShowsAll, GoesOn, ComesTo, Concludes, Settles, RefusesFor, PlaysAt, ShowsStill};
     ghost use Rattle.node_port.specs.declared.commands.Command.TheVariants.{Ask, Steps, Letter, Down, Tick};
     ghost use Rattle.node_port.specs.declared.port.Standing.{Standing};
@@ -162,7 +161,8 @@ impl Port {
 
     /// Prints whether the node is joined, and with whom, where that isn't what was printed last.
     fn show_new_state(&mut self) -> Result<(), AllocError>
-        ensures { OnOk result (ShowsStill self.old self.new) }
+        ensures still { OnOk result (ShowsStill self.old self.new) }
+        ensures node { self.new.node ≡ self.old.node }
     {
         if self.joined != self.node.is_joined() || self.members != *self.node.members() {
             return self.show_state();
@@ -172,7 +172,8 @@ impl Port {
 
     /// Prints what the last turn did to the table.
     fn show_update(&mut self) -> Result<(), AllocError>
-        ensures { OnOk result (ShowsAll self.old self.new) }
+        ensures still { OnOk result (ShowsStill self.old self.new) }
+        ensures all { OnOk result (self.new.node.owed.note ≡ Nothing) }
     {
         if let Some(update) = self.node.next_update(self.alloc)? {
             push_edit(&mut self.output.changes, &update.edit)?;
@@ -182,7 +183,9 @@ impl Port {
 
     /// Prints what the last turn replied.
     fn show_replies(&mut self) -> Result<(), AllocError>
-        ensures { OnOk result (ShowsStill self.old self.new) }
+        ensures still { OnOk result (ShowsStill self.old self.new) }
+        ensures all { OnOk result (self.new.node.desk.replies ≡ []) }
+        ensures owed { self.new.node.owed ≡ self.old.node.owed }
     {
         while let Some(reply) = self.node.next_reply() {
             push_reply(&mut self.output.answers, self.alloc, reply)?;
@@ -363,12 +366,22 @@ impl Port {
         push_refusal(&mut self.output.answers, *tag, fault)
     }
 
-    /// Says that something waits to be tried again, where it does.
-    pub(crate) fn show_waiting(&mut self) -> Result<(), AllocError>
-        ensures stand { stand_of self.new ≡ stand_of self.old }
-        ensures shown { OnOk result (Grows [] (if owes self.old.node then Waits ∷ [] else []) self.old.output self.new.output) }
+    /// Whether the node runs, and something waits to be tried again.
+    fn waits(&self, standing: Standing) -> bool
+        ensures { result ≡ is_waiting standing self.now.node }
     {
-        if self.node.owes() {
+        match standing {
+            Standing::Runs => self.node.owes(),
+            Standing::HasLeft | Standing::Broken | Standing::Spent => false,
+        }
+    }
+
+    /// Says that something waits to be tried again, where it does, and the node runs.
+    pub(crate) fn show_waiting(&mut self, standing: Standing) -> Result<(), AllocError>
+        ensures stand { stand_of self.new ≡ stand_of self.old }
+        ensures shown { OnOk result (Grows [] (waiting standing self.old.node) self.old.output self.new.output) }
+    {
+        if self.waits(standing) {
             push_wait(&mut self.output.answers)?;
         }
         Ok(())

@@ -55,9 +55,7 @@ fn do_line(alloc: Global, port: &mut Port, line: &Line) -> Result<Standing, Allo
         (λ standing. (taken : Taken) × IsTaken bytes taken × PlaysAt taken standing (spent standing ++ waiting standing port.new.node) port.old port.new) }
 {
     let standing = take_line(alloc, port, line)?;
-    if let Standing::Runs = standing {
-        port.show_waiting()?;
-    }
+    port.show_waiting(standing)?;
     Ok(standing)
 }
 
