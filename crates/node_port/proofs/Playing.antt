@@ -18,7 +18,7 @@ use Rattle.node_port.specs.Working.{stand_of, IsEmpty, PlaysAt, PlaysOn, StopsOn
 use Rattle.node_port.specs.declared.port.Port.{Port}
 use Rattle.node_port.specs.declared.port.Standing.{Standing}
 use Rattle.node_port.specs.declared.port.Standing.TheVariants.{Runs, HasLeft, Broken, Spent}
-use Rattle.node_port.proofs.Printing.{changes_now, answers_now}
+use Rattle.node_port.proofs.Growing.{changes_now, answers_now}
 
 -- a line that was done at a node is printed
 module _ (bytes : List ℕ) (taken : Taken) (s : Standing) (a b c : Port) (says : IsTaken bytes taken) (empty : IsEmpty a.output)

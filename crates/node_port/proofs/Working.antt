@@ -29,7 +29,7 @@ use Rattle.node_port.specs.declared.output.Output.{Output}
 use Rattle.node_port.specs.declared.port.Port.{Port}
 use Rattle.node_port.specs.declared.port.Standing.{Standing}
 use Rattle.node_port.specs.declared.port.Standing.TheVariants.{Runs, HasLeft, Broken, Spent}
-use Rattle.node_port.proofs.Printing.{grows_none, grows_on, grows_as, grows_from}
+use Rattle.node_port.proofs.Growing.{grows_none, grows_on, grows_as, grows_from}
 
 -- one thing behind the other
 pub does_on : (ds es : List Deed) (a b c : Stand) → DoesAll ds a b → DoesAll es b c → DoesAll (ds ++ es) a c
