@@ -5,6 +5,7 @@ use Rattle.clap.specs.Words.{IsAmong, Kinds, Text, subcommand_of}
 use Rattle.clap.specs.declared.error.kind.ErrorKind.{ErrorKind}
 use Rattle.cluster_script.specs.Script.{Ran, Stopped}
 use Rattle.text_lines.specs.declared.faults.StreamFault.{StreamFault}
+use Rattle.node_port.specs.Ran.{NodeRan, NodeStopped}
 use Rattle.arguments.specs.CommandLine.{Entered, name_in, program, refusals, value_in}
 use Rattle.arguments.specs.Reading.{RefusesIn, TellsFine, TellsNode, Values}
 use Rattle.arguments.specs.declared.faults.ArgFault.{ArgFault}
@@ -43,6 +44,7 @@ pub record PlaysScript (s : Streams) (status : ℕ) : Type 0 where
 pub record RunsNode (o : NodeOptions) (s : Streams) (status : ℕ) : Type 0 where
   pub ran : Result Bool StreamFault
   pub printed : Option (List ℕ)
+  pub runs : MatchResult ran (NodeRan o.node o.world s.input s.rest s.old printed) (NodeStopped o.node o.world s.input s.rest s.old printed)
   pub flushed : Keeps printed s.new
   pub status_is : (status ≡ status_of ran) ⊎ (status ≡ 1)
 

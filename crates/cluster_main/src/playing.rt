@@ -1,6 +1,7 @@
 //! What the program does by the lines of standard input: for a script, and as a node.
-ghost use Rattle.std.specs.Prelude.{◌≡◌};
+ghost use Rattle.std.specs.Prelude.{◌≡◌, true};
 ghost use Rattle.std.specs.Io.Buffered.{reader_remaining};
+ghost use Rattle.term.specs.NodeSets.{set_of};
 ghost use Rattle.cluster_main.specs.Answering.{PlaysScript, RunsNode, status_of as any_status};
 
 use arguments::NodeOptions;
@@ -48,6 +49,7 @@ pub(crate) fn run<R: Read, W: Write>(
     reader: &mut BufReader<R, Global>,
     writer: &mut W,
 ) -> u8
+    requires { set_of options.now.world options.now.node ≡ true }
     ensures { RunsNode options.now (record {
       input = reader_remaining R.remaining reader.old;
       rest = reader_remaining R.remaining reader.new;
@@ -55,6 +57,8 @@ pub(crate) fn run<R: Read, W: Write>(
       new = W.contents writer.new;
     }) result }
 {
+    // The names show that they are those of first nodes.
+    let _count = options.world.len();
     let node = Node::first(options.node.copy());
     let world = NodeSet::first_of(&options.world);
     let ran = run_node(alloc, &node, &world, reader, writer);

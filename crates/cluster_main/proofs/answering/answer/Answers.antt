@@ -33,6 +33,9 @@ returns-in-Ok-Serve g c =
     (Keeps-refl (reader_remaining g.R.Read.remaining c.args.reader.now)) c.serve.ensures.serves c.serve.ensures.why c.status.ensures in
     rw c.in-Some.is (inl d)
 
+pub run-requires : goal.run-requires
+run-requires g c = (subst (Asks (map string_bytes c.in-Some.words.now)) c.in-Ok-Node.field-0-is c.in-Ok-Node.ensures.task).asked.1.placed.known
+
 pub returns-in-Ok-Node : goal.returns-in-Ok-Node
 returns-in-Ok-Node g c =
     let s : Streams = record {
