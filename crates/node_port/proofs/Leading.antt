@@ -1,6 +1,6 @@
 -- What leads a node from one moment to a later one: what was read and printed on the way, what is shown, and what its log says.
 use Rattle.std.proofs.Common.{◌≡◌, ℕ, suc, zero, Bool, true, false, inl, inr, Ok, Err, Option, Some, None, List, [], ◌∷◌, ◌++◌, map, refl, sym, ap, subst, ◌∙◌, append-nil, append_assoc, All}
-use Rattle.std.specs.Prelude.{flat_map, Contains, ◌⊎◌}
+use Rattle.std.specs.Prelude.{flat_map, Contains, ◌⊎◌, Result}
 use Rattle.std.proofs.lemmas.Grind.{flat_map-append}
 use Rattle.std.proofs.lemmas.List.Elements.{All-nil, All-cons, All-append, All-weaker, Contains-append_left}
 use Rattle.protocol_model.specs.Event.{Answer as AnyAnswer}
@@ -9,6 +9,8 @@ use Rattle.node_loop.specs.declared.edit.Note.TheVariants.{Nothing}
 use Rattle.node_loop.specs.declared.edit.Owed.{Owed}
 use Rattle.node_loop.specs.declared.edit.Update.{Update}
 use Rattle.node_loop.specs.declared.item.Item.{Item}
+use Rattle.node_loop.specs.declared.item.Ticket.{Ticket}
+use Rattle.node_loop.specs.declared.replies.TaskFault.{TaskFault}
 use Rattle.node_loop.specs.declared.item.Item.TheVariants.{Letter, Task}
 use Rattle.node_loop.specs.Answers.{LogsAnswer}
 use Rattle.node_loop.specs.Coming.{IsLoopOf, Turns, HandsOut, HandsOver}
@@ -17,7 +19,7 @@ use Rattle.node_loop.specs.Held.{Looping, Written}
 use Rattle.node_loop.specs.Items.{by_leave}
 use Rattle.node_loop.specs.Owing.{shown_by, Owes}
 use Rattle.node_loop.specs.Steps.{Outcome, entry_of}
-use Rattle.node_loop.specs.Told.{Told, Answered}
+use Rattle.node_loop.specs.Told.{Told, Came, Answered}
 use Rattle.node_loop.proofs.Answers.{next_is_logged}
 use Rattle.node_loop.proofs.Moving.{IsKept, turns, turn_of}
 use Rattle.node_loop.proofs.Owing.{turns_keep}
@@ -206,6 +208,9 @@ show_leads (Stood joined members) a b D = record {
   given = λ name h. All-nil (IsGiven b.loop.log);
 }
 
+abbrev as_told : Ticket → Result Came TaskFault → Told
+as_told t o = record { ticket = t; outcome = o }
+
 -- a reply is handed out
 hand_leads : (told : Told) (a b : Stand) → Does (Hand told) a b → Leads [] [] [] (Tells told ∷ []) a b
 hand_leads told a b D = record {
@@ -217,7 +222,7 @@ hand_leads told a b D = record {
   stays = λ stamp answer h. as_before stamp answer a.loop b.loop log h;
   given = λ name h. All-cons (IsGiven b.loop.log) (Tells told) [] (λ stamp answer e. as_before stamp answer a.loop b.loop log
       (next_is_logged name a.loop h told.ticket stamp answer b.loop.desk.replies
-      (D.0.oldest ∙ (λ j. record { ticket = told.ticket; outcome = e j } ∷ b.loop.desk.replies)))) (All-nil (IsGiven b.loop.log));
+      (D.0.oldest ∙ ap (λ (o : Result Came TaskFault). as_told told.ticket o ∷ b.loop.desk.replies) e))) (All-nil (IsGiven b.loop.log));
 }
   where
     log : b.loop.log ≡ a.loop.log

@@ -104,17 +104,13 @@ lost_leads n a b loop H =
       ap (λ (w : Wiring). w.read) h ∙ lost_read (wire_at k a.end.wires).is_down n k a.end,
     )
 
-asked_order : (out : List ℕ) (s t : Wiring) → t ≡ record s { tasks = t.tasks } → InOrder out s → InOrder out t
-asked_order out s t e h = subst (InOrder out) (sym e) (record { read = h.read; counted = h.counted; sent = h.sent })
-
 nothing_given : (a b : Stand) → b ≡ a → Leads [] [] [] [] a b
 nothing_given a b e = subst (λ (x : Stand). Leads [] [] [] [] a x) (sym e) (leads_none a)
 
 gives_lead : (taken : Taken) (a b : Stand) → Gives taken a b → Leads (reads_by taken) [] [] [] a b
 gives_lead (Follows (Ask tag event)) a b G =
     by_end a b [] G.0 (ap (λ (w : Wiring). w.node) G.1) (ap (λ (w : Wiring). w.read) G.1 ∙ sym (append-nil a.end.read))
-    (λ out h. asked_order out a.end b.end
-    (G.1 ∙ (λ j. record a.end { tasks = (sym (ap (λ (w : Wiring). w.tasks) G.1)) j })) h)
+    (λ out h. subst (InOrder out) (sym G.1) (record { read = h.read; counted = h.counted; sent = h.sent }))
 gives_lead (Follows (Letter from line)) a b G = heard_leads from line a b G.0 G.1
 gives_lead (Follows (Down n)) a b G = lost_leads n a b G.0 G.1
 gives_lead (Follows (Steps tag)) a b G = nothing_given a b G

@@ -41,6 +41,7 @@ use Rattle.node_port.specs.Soundness.{IsSoundAt, EndsSoundAt, IsSoundIn}
 use Rattle.node_port.specs.declared.commands.Command.TheVariants.{Ask, Steps, Letter, Down, Tick}
 use Rattle.node_port.specs.declared.port.Standing.{Standing}
 use Rattle.node_port.specs.declared.port.Standing.TheVariants.{Runs, HasLeft, Broken, Spent}
+use Rattle.node_port.proofs.Stands.{stand_is}
 
 -- what is shown and handed out the protocol doesn't see
 module _ (o : Opening) where
@@ -56,12 +57,12 @@ module _ (o : Opening) where
 
   still_sound : (d : Deed) (a b : Stand) → is_still d ≡ true → Does d a b → IsSoundAt o a → IsSoundAt o b
   still_sound (Turn r) a b e D S = absurd (false≢true e)
-  still_sound (Show (Edited u)) a b e D S = subst (IsSoundAt o) (sym (λ j. record { loop = D.0.0 j; end = D.1 j })) (
+  still_sound (Show (Edited u)) a b e D S = subst (IsSoundAt o) (sym (stand_is b _ _ D.0.0 D.1)) (
     S.0,
     besides o (λ f. []) a.loop (dealt_of a.end) S.1 a.loop.desk a.loop.wait a.loop.worked (record a.loop.owed { note = Nothing }),
   )
-  still_sound (Show (Stood j m)) a b e D S = subst (IsSoundAt o) (sym (λ k. record { loop = D.0.2 k; end = D.1 k })) S
-  still_sound (Hand t) a b e D S = subst (IsSoundAt o) (sym (λ j. record { loop = D.0.rest j; end = D.1 j })) (
+  still_sound (Show (Stood j m)) a b e D S = subst (IsSoundAt o) (sym (stand_is b _ _ D.0.2 D.1)) S
+  still_sound (Hand t) a b e D S = subst (IsSoundAt o) (sym (stand_is b _ _ D.0.rest D.1)) (
     S.0,
     besides o (λ f. []) a.loop (dealt_of a.end) S.1 (record a.loop.desk { replies = b.loop.desk.replies }) a.loop.wait a.loop.worked a.loop.owed,
   )
@@ -172,7 +173,7 @@ module _ (o : Opening) where
     where
       go : (at : Option ℕ) → place from a.end.wires ≡ at → HearsAt at from line a.end b.end → IsSoundAt o b
       go None e h = absurd h
-      go (Some k) e h = subst (IsSoundAt o) (sym (λ j. record { loop = loop j; end = h.rest j })) (by_letter h.letter)
+      go (Some k) e h = subst (IsSoundAt o) (sym (stand_is b _ _ loop h.rest)) (by_letter h.letter)
         where
           s : Wiring
           s = record a.end { wires = set a.end.wires k h.wire; read = a.end.read ++ (from, line) ∷ [] }
@@ -189,7 +190,7 @@ module _ (o : Opening) where
     where
       go : (at : Option ℕ) → place n a.end.wires ≡ at → LosesAt at n (Ok tt) a.end b.end → IsSoundAt o b
       go None e h = absurd (cc (h.0))
-      go (Some k) e h = subst (IsSoundAt o) (sym (λ j. record { loop = loop j; end = h j })) (by_word (wire_at k a.end.wires).is_down)
+      go (Some k) e h = subst (IsSoundAt o) (sym (stand_is b _ _ loop h)) (by_word (wire_at k a.end.wires).is_down)
         where
           s : Wiring
           s = record a.end { wires = set a.end.wires k (closed (wire_at k a.end.wires)) }
@@ -202,7 +203,7 @@ module _ (o : Opening) where
           by_word false = (inside_laid s n gone here.0 here.1, S.1)
 
   gives_sound : (taken : Taken) (a b : Stand) → Gives taken a b → IsSoundAt o a → IsSoundAt o b
-  gives_sound (Follows (Ask tag event)) a b G S = subst (IsSoundAt o) (sym (λ j. record { loop = G.0 j; end = G.1 j })) S
+  gives_sound (Follows (Ask tag event)) a b G S = subst (IsSoundAt o) (sym (stand_is b _ _ G.0 G.1)) S
   gives_sound (Follows (Letter from line)) a b G S = heard_sound from line a b G.0 G.1 S
   gives_sound (Follows (Down n)) a b G S = lost_sound n a b G.0 G.1 S
   gives_sound (Follows (Steps tag)) a b G S = subst (IsSoundAt o) (sym G) S

@@ -29,6 +29,7 @@ use Rattle.node_port.specs.declared.output.Output.{Output}
 use Rattle.node_port.specs.declared.port.Port.{Port}
 use Rattle.node_port.specs.declared.port.Standing.{Standing}
 use Rattle.node_port.specs.declared.port.Standing.TheVariants.{Runs, HasLeft, Broken, Spent}
+use Rattle.node_port.proofs.Stands.{stand_is}
 use Rattle.node_port.proofs.Growing.{grows_none, grows_on, grows_as, grows_from}
 
 -- one thing behind the other
@@ -184,7 +185,7 @@ unchanged fault from line s t h ne = go (place from s.wires) h
 -- what is behind a refusal
 module _ (a m b : Port) (loop : m.node ≡ a.node) (output : m.output ≡ a.output) (still : stand_of b ≡ stand_of m) where
   same : m.end ≡ a.end → stand_of b ≡ stand_of a
-  same e = still ∙ (λ j. record { loop = loop j; end = e j })
+  same e = still ∙ stand_is (stand_of m) a.node a.end loop e
 
   shown_so : (xs : List Shown) → Grows [] xs m.output b.output → Grows [] (xs ++ []) a.output b.output
   shown_so xs G = grows_from [] (xs ++ []) a.output m.output b.output output

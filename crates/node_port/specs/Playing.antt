@@ -9,7 +9,7 @@ use Rattle.node_port.specs.Commands.{Taken, Follows, Refused, Strange, Misplaced
 use Rattle.node_port.specs.Deeds.{Stand, Deed, DoesAll, BreaksOff, IsAllTold, changes_by, replies_by, all_go_on}
 use Rattle.node_port.specs.Edits.{Changed, changed_lines}
 use Rattle.node_port.specs.Shown.{Shown, Tells, Counts, Gaps, Misses, Waits, Spends, shown_lines}
-use Rattle.node_port.specs.Shown as line
+use Rattle.node_port.specs.Shown as shown
 use Rattle.node_port.specs.declared.commands.Command.TheVariants.{Ask, Steps, Letter, Down, Tick}
 use Rattle.node_port.specs.declared.port.Standing.{Standing}
 use Rattle.node_port.specs.declared.port.Standing.TheVariants.{Runs, HasLeft, Broken, Spent}
@@ -29,7 +29,7 @@ Gives _ a b = b ≡ a
 -- what it is answered by besides the loop's replies
 abbrev pub said : Taken → Looping → List Shown
 said (Follows (Steps tag)) loop = Counts tag (length loop.log.entries) ∷ []
-said (Refused tag fault) loop = line.Refuses tag fault ∷ []
+said (Refused tag fault) loop = shown.Refuses tag fault ∷ []
 said Strange loop = Misses ∷ []
 said (Misplaced from line) loop = Gaps from line.number ∷ []
 said _ loop = []

@@ -19,7 +19,7 @@ use Rattle.node_port.specs.Edits.{Changed, changed_lines}
 use Rattle.node_port.specs.Playing.{Gives, Printed, PlaysLine, PlaysAll, EndsFor, said, spent, printed_text}
 use Rattle.node_port.specs.Ran.{Ends, first_text, opened_so}
 use Rattle.node_port.specs.Shown.{Shown, Tells, Gaps, Misses, Spends, shown_lines}
-use Rattle.node_port.specs.Shown as line
+use Rattle.node_port.specs.Shown as shown
 use Rattle.node_port.specs.declared.output.Output.{Output}
 use Rattle.node_port.specs.declared.port.Port.{Port}
 use Rattle.node_port.specs.declared.port.Standing.{Standing}
@@ -94,7 +94,7 @@ abbrev pub RefusesFor : HearFault → ℕ → ℕ → Standing → Port → Port
 RefusesFor Gap from number standing a b = (standing ≡ Broken) × Grows [] (Gaps from number ∷ []) a.output b.output
 RefusesFor NoSuchNode from number standing a b = (standing ≡ Runs) × Grows [] (Misses ∷ []) a.output b.output
 RefusesFor (Part f) from number standing a b =
-    (standing ≡ Runs) × (f ≢ letter.Memory) × ((fault : LineFault) × Grows [] (line.Refuses None fault ∷ []) a.output b.output)
+    (standing ≡ Runs) × (f ≢ letter.Memory) × ((fault : LineFault) × Grows [] (shown.Refuses None fault ∷ []) a.output b.output)
 
 -- a line is done at a node, or refused, and that is to be printed, and this behind it
 pub record PlaysAt (taken : Taken) (standing : Standing) (more : List Shown) (a b : Port) : Type 0 where
