@@ -1,5 +1,5 @@
 //! What the lines that come in say.
-ghost use Rattle.std.specs.Prelude.{◌≡◌, ◌∷◌, ◌++◌, ℕ, List, Ok, IfOk, bytes_eq, codes};
+ghost use Rattle.std.specs.Prelude.{◌≡◌, ◌∷◌, ◌++◌, ℕ, List, Ok, IfOk, IfSome, bytes_eq, codes};
 ghost use Rattle.text_lines.specs.Lines.{IsKept};
 ghost use Rattle.letter_lines.specs.Grammar.{TextReads};
 ghost use Rattle.node_port.specs.Numbers.{SpellsNumber};
@@ -187,11 +187,18 @@ fn part_of(text: &str) -> Result<Part, LineFault>
     }
 }
 
-/// A text cut at its first space, of which it has one: what stands before it, and what stands behind it.
+/// A text cut at its first space, where it has one: what stands before it, and what stands behind it.
+fn cut(text: &str) -> Option<(&str, &str)>
+    ensures { IfSome result (λ x. text.now ≡ x.0.now ++ 32 ∷ x.1.now) }
+{
+    text.split_once(' ')
+}
+
+/// The same of a text that has one.
 fn cut_at_space(text: &str) -> Result<(&str, &str), LineFault>
     ensures { IfOk result (λ x. text.now ≡ x.0.now ++ 32 ∷ x.1.now) }
 {
-    text.split_once(' ').ok_or(LineFault::BadLine)
+    cut(text).ok_or(LineFault::BadLine)
 }
 
 /// The number that a text spells.
@@ -226,11 +233,18 @@ fn read_letter(text: &str) -> Result<Command, LineFault>
     Ok(Command::Letter(from, read_link_line(rest)?))
 }
 
+/// What stands behind the word of a line of a link.
+fn behind_letter(text: &str) -> Option<&str>
+    ensures { IfSome result (λ rest. text.now ≡ codes "letter " ++ rest.now) }
+{
+    text.strip_prefix("letter ")
+}
+
 /// What a line says that has no tag.
 fn read_untagged(text: &str) -> Result<Command, LineFault>
     ensures { IfOk result (Says text.now) }
 {
-    if let Some(rest) = text.strip_prefix("letter ") {
+    if let Some(rest) = behind_letter(text) {
         return read_letter(rest);
     }
     if let Some(node) = text.strip_prefix("down ") {
@@ -250,7 +264,7 @@ fn refused_under(tag: Option<u64>, fault: LineFault) -> Refused {
 
 /// The tag of a line, and the text behind it, where it has one.
 fn split_tag(text: &str) -> Option<(u64, &str)> {
-    let (tag, rest) = text.split_once(' ')?;
+    let (tag, rest) = cut(text)?;
     Some((parse_number(tag)?, rest))
 }
 
