@@ -100,23 +100,34 @@ def has_it_all(program, root, *options):
         served.expect_closed()
 
 
-class Candidate:
-    """A program that stands for election."""
+class Example:
+    """An example that runs."""
 
-    def __init__(self, root, served, name):
-        words = [sys.executable, f"{root}/clients/python/examples/election.py", served.socket, name]
+    def __init__(self, root, served, name, *words):
+        words = [sys.executable, f"{root}/clients/python/examples/{name}.py", served.socket, *words]
         self.name, self.seconds = name, served.seconds
         environment = {**os.environ, "PYTHONDONTWRITEBYTECODE": "1"}
         self.process = subprocess.Popen(words, stdin=subprocess.DEVNULL, stdout=subprocess.PIPE, env=environment)
 
     def expect(self, text):
         wait_for(self.process.stdout, time.monotonic() + self.seconds, f"line of {self.name}")
-        expect("the line of a candidate", f"{self.name} {text}\n".encode(), self.process.stdout.readline())
+        expect(f"the line of {self.name}", f"{text}\n".encode(), self.process.stdout.readline())
 
     def end(self):
         self.process.kill()
         self.process.wait()
         self.process.stdout.close()
+
+
+class Candidate(Example):
+    """A program that stands for election."""
+
+    def __init__(self, root, served, name):
+        super().__init__(root, served, "election", name)
+        self.candidate = name
+
+    def expect(self, text):
+        super().expect(f"{self.candidate} {text}")
 
 
 def elects(program, root):
@@ -204,9 +215,40 @@ def guards(program, root):
         served.expect_closed()
 
 
+def serves_and_stands_by(program, root):
+    """Callers are answered by whoever serves; when that is killed the one that stood by serves, and a caller who came between waits for it."""
+    with Served(program, ["--stay", "--nodes", "a,b", "--consoles", "6"]) as served:
+        running = []
+
+        def start(*words):
+            running.append(Example(root, served, "service", *words))
+            return running[-1]
+
+        try:
+            early = start("call", "who is there")
+            first = start("serve")
+            first.expect("serves")
+            early.expect("WHO IS THERE")
+            second = start("serve")
+            second.expect("stands by")
+            start("call", "hello").expect("HELLO")
+            first.end()
+            second.expect("serves")
+            start("call", "again").expect("AGAIN")
+            with client_of(root).connect(served.address) as watcher:
+                watcher.shutdown()
+            if second.process.wait(served.seconds):
+                raise Failure("the service ends with a fault")
+            served.expect_closed()
+        finally:
+            for one in running:
+                one.end()
+
+
 def tests(program, root):
     yield Test("clients/has_it_all_at_a_socket", partial(has_it_all, program, root))
     yield Test("clients/has_it_all_over_tcp", partial(has_it_all, program, root, "--cookie", COOKIE))
     yield Test("clients/elects", partial(elects, program, root))
     yield Test("clients/numbers_rise", partial(numbers_rise, program, root))
+    yield Test("clients/serves_and_stands_by", partial(serves_and_stands_by, program, root))
     yield Test("clients/guards", partial(guards, program, root))

@@ -1,7 +1,8 @@
 //! Consoles whose line has no end, and whose readers and writers fail at each point.
 use crate::clerks::{Clerk, MOST_LINES, hold};
 use crate::ends::{Ended, how_ended};
-use crate::streams::{Endless, Full, Shy, Torn};
+use crate::streams::Endless;
+use failing_streams::{Full, Shy, Torn};
 use std::alloc::Global;
 use std::io::{Cursor, Write};
 

@@ -1,8 +1,8 @@
 //! First lines, with a cookie and without one, and seats that are refused.
 use crate::ends::{Ended, ended_by};
 use crate::faults::are_lines_of;
-use crate::streams::{Full, Torn};
 use console::{ConsoleFault, Cookie, greet, refuse_seat};
+use failing_streams::{Full, Torn};
 use server::SeatFault;
 use std::alloc::Global;
 use std::io::{BufReader, Cursor, Read, Write};

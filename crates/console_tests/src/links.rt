@@ -1,8 +1,8 @@
 //! Linked processes: whose exit is asked for when a console ends, and what `self` is.
 use crate::clerks::{Clerk, MOST_LINES, hold, is_answered};
 use crate::ends::{Ended, how_ended};
-use crate::streams::{Full, Torn};
 use console::ConsoleEnd;
+use failing_streams::{Full, Torn};
 use std::alloc::Global;
 use std::io::{Cursor, Read, Write};
 

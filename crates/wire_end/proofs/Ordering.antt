@@ -420,6 +420,8 @@ stay_in_order = record {
   gives = gives;
   hears = hears;
   loses = loses;
+  asks = λ out s task h. record { read = h.read; counted = h.counted; sent = h.sent };
   prints = λ out s h.
       record { read = h.read; counted = h.counted; sent = append-nil (out ++ s.lines) ∙ h.sent };
+  tells = λ out s h. record { read = h.read; counted = h.counted; sent = h.sent };
 }

@@ -1,14 +1,16 @@
 -- The order of an end's lines: of each other node, what its lines spell is what was taken of it and what waits; and what is printed is the
 -- lines of the letters that were sent to others.
-use Rattle.std.specs.Prelude.{ℕ, false, ◌≡◌, ◌⊎◌, ◌==◌, ◌+◌, Option, Some, None, Ok, List, [], ◌∷◌, ◌++◌, map, length, if◌then◌else◌}
-use Rattle.std.specs.List.{sum_by}
+use Rattle.std.specs.Prelude.{ℕ, true, false, ◌≡◌, ◌⊎◌, ◌==◌, ◌+◌, not, Option, Some, None, Ok, List, [], ◌∷◌, ◌++◌, map, length, if◌then◌else◌}
+use Rattle.std.specs.List.{sum_by, list_all, AllByRecursion}
 use Rattle.protocol_model.specs.Letter.{Letter as AnyLetter}
 use Rattle.letter_lines.specs.Gathered.{Gathered, Taken, taken, nothing}
 use Rattle.node_events.specs.Letters.{letter_of}
+use Rattle.letter_lines.specs.Laws.{IsLetter}
 use Rattle.letter_lines.specs.Parts.{parts_of}
 use Rattle.node_loop.specs.Alone.{Stamped as StampedLetter}
 use Rattle.node_loop.specs.declared.item.Item.{Item}
 use Rattle.node_loop.specs.declared.item.Stamped.{Stamped}
+use Rattle.node_loop.specs.declared.item.Task.{Task}
 use Rattle.wire_end.specs.declared.line.LinkLine.{LinkLine}
 use Rattle.wire_end.specs.declared.wire.Wire.{Wire}
 use Rattle.wire_end.specs.declared.wire_end.Wiring.{Wiring}
@@ -77,18 +79,35 @@ abbrev pub came_of : ℕ → Wiring → List Stamped
 came_of f s = of_node f s.taken ++ of_node f s.heard
 
 -- All is in order, where this was printed: each link spells what came of its node, and what was printed, and is to be, is the lines of the
--- letters that were sent to others
+-- letters that were sent to others, which are such as are read again from their parts
 pub record InOrder (gone_out : List ℕ) (s : Wiring) : Type 0 where
   pub read : (f : ℕ) → (f ≡ s.node → ⊥) → Spells (link_with f s.wires) (of_node f s.read) (came_of f s)
   pub counted : (t : ℕ) → (t ≡ s.node → ⊥) → (link_with t s.wires).written ≡ lines_to t s.sent
   pub sent : gone_out ++ s.lines ≡ texts_behind s.node [] s.sent
+  pub letters : (t : ℕ) → (t ≡ s.node → ⊥) → AllByRecursion (λ (l : Stamped). IsLetter l.letter) (of_node t s.sent)
 
--- an end begins in order, and stays so, whatever it sends, takes, reads or prints
-pub record StayInOrder : Type 0 where
-  pub begins : (node : ℕ) (world : List ℕ) → InOrder [] (begun node world)
-  pub sends : (out : List ℕ) (s : Wiring) (to : ℕ) (i : Item) (t : Wiring) → InOrder out s → Posts s to i t → InOrder out t
-  pub gives : (out : List ℕ) (s : Wiring) (from : ℕ) (i : Item) (t : Wiring) → InOrder out s → Takes s from i t → InOrder out t
-  pub hears : (out : List ℕ) (s : Wiring) (from : ℕ) (line : LinkLine) (t : Wiring) → InOrder out s
-      → Hears from line (Ok tt) s t → InOrder out t
-  pub loses : (out : List ℕ) (s : Wiring) (n : ℕ) (t : Wiring) → InOrder out s → Loses n (Ok tt) s t → InOrder out t
-  pub prints : (out : List ℕ) (s : Wiring) → InOrder out s → InOrder (out ++ s.lines) (record s { lines = [] })
+-- The letters of the node to itself: those that were taken, and then those that wait, are those that were sent. No link leads to the node, and
+-- no letter of it came over one
+pub record KeepsOwn (s : Wiring) : Type 0 where
+  pub sent : of_node s.node s.taken ++ s.own ≡ of_node s.node s.sent
+  pub heard : of_node s.node s.heard ≡ []
+  pub wires : list_all (λ w. not (w.node == s.node)) s.wires ≡ true
+
+-- It is so of an end as it begins, where nothing was printed yet, and stays so whatever it sends, takes, reads, is told, is asked or prints
+pub record AlwaysHolds (P : List ℕ → Wiring → Type 0) : Type 0 where
+  pub begins : (node : ℕ) (world : List ℕ) → P [] (begun node world)
+  pub sends : (out : List ℕ) (s : Wiring) (to : ℕ) (i : Item) (t : Wiring) → P out s → Posts s to i t → P out t
+  pub gives : (out : List ℕ) (s : Wiring) (from : ℕ) (i : Item) (t : Wiring) → P out s → Takes s from i t → P out t
+  pub hears : (out : List ℕ) (s : Wiring) (from : ℕ) (line : LinkLine) (t : Wiring) → P out s → Hears from line (Ok tt) s t → P out t
+  pub loses : (out : List ℕ) (s : Wiring) (n : ℕ) (t : Wiring) → P out s → Loses n (Ok tt) s t → P out t
+  pub asks : (out : List ℕ) (s : Wiring) (task : Task) → P out s → P out (record s { tasks = s.tasks ++ task ∷ [] })
+  pub prints : (out : List ℕ) (s : Wiring) → P out s → P (out ++ s.lines) (record s { lines = [] })
+  pub tells : (out : List ℕ) (s : Wiring) → P out s → P out (record s { orders = [] })
+
+-- an end begins in order, and stays so
+abbrev pub StayInOrder : Type 0
+StayInOrder = AlwaysHolds InOrder
+
+-- and its node's letters to itself stay with it
+abbrev pub KeepTheirOwn : Type 0
+KeepTheirOwn = AlwaysHolds (λ out s. KeepsOwn s)

@@ -1,28 +1,24 @@
 -- What letters order for the processes of the node that reads them.
 use Rattle.std.specs.Prelude.{ℕ, ◌==◌, codes, List, [], ◌∷◌, ◌++◌, flat_map, Option, Some, None, if◌then◌else◌}
-use Rattle.std.specs.Fmt.{decimal}
 use Rattle.registry_model.specs.Process.{Process}
 use Rattle.registry_model.specs.Settlement.{Noted}
 use Rattle.node_events.specs.declared.events.Letter.{Letter}
 use Rattle.node_events.specs.declared.events.Letter.TheVariants.{Admit, Welcome}
-use Rattle.term.specs.Spelling.{bytes_of, node_bytes}
-
--- the text of a process
-abbrev pub pid_bytes : Process → List ℕ
-pid_bytes p = node_bytes p.node ++ 46 ∷ decimal p.serial
+use Rattle.letter_lines.specs.Processes.{process_bytes}
+use Rattle.term.specs.Spelling.{bytes_of}
 
 -- what stands behind a notice for the other process that lost the name
 abbrev pub other_text : Option Process → List ℕ
 other_text None = []
-other_text (Some q) = 32 ∷ pid_bytes q
+other_text (Some q) = 32 ∷ process_bytes q
 
 -- a process of this node dies
 abbrev pub kill_line : ℕ → Process → List ℕ
-kill_line node p = if p.node == node then codes "kill " ++ (pid_bytes p ++ 10 ∷ []) else []
+kill_line node p = if p.node == node then codes "kill " ++ (process_bytes p ++ 10 ∷ []) else []
 
 -- one is sent this
 abbrev pub notice_text : Noted → List ℕ
-notice_text n = codes "notice " ++ (pid_bytes n.process ++ 32 ∷ (bytes_of n.notice.name ++ (other_text n.notice.other ++ 10 ∷ [])))
+notice_text n = codes "notice " ++ (process_bytes n.process ++ 32 ∷ (bytes_of n.notice.name ++ (other_text n.notice.other ++ 10 ∷ [])))
 
 abbrev pub notice_line : ℕ → Noted → List ℕ
 notice_line node n = if n.process.node == node then notice_text n else []

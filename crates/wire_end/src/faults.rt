@@ -6,15 +6,15 @@ ghost use Rattle.wire_end.specs.declared.faults.HearFault.TheVariants.{Part};
 use letter_lines::LetterFault;
 use std::alloc::AllocError;
 
-/// Why a line of a link isn't taken. Nothing changed then, but where memory was refused.
+/// Why a line of a link isn't taken. Nothing changed then, but where memory was refused for the letter that it ends.
 #[derive(Debug, Drop)]
 pub enum HearFault {
     /// No other node of the world is this one.
     NoSuchNode,
     /// It isn't the next line of its link: one was lost, or doubled, or overtaken.
     Gap,
-    /// What it says is no part of the letter that the lines before it began. Where memory was refused a letter may be lost: so the end
-    /// isn't to be used any more then.
+    /// What it says is no part of the letter that the lines before it began, or memory was refused. Then the letter that it ends may be
+    /// lost, so the end isn't to be used any more.
     Part(LetterFault),
 }
 

@@ -11,7 +11,7 @@ pub fn ends_deal()
     ensures { (o : Opening) → Deals Posts Takes o (leads_inside o) dealt_of }
 {}
 
-/// An end of lines begins in order, and stays so whatever it sends, takes, reads or prints: the lines of each link spell what came of its
+/// An end of lines begins in order, and stays so whatever it sends, takes, reads, is asked or prints: the lines of each link spell what came of its
 /// node, and what was printed, and is to be, is the lines of the letters that were sent to others, numbered from 1 on.
 pub fn ends_stay_in_order()
     ensures { StayInOrder }

@@ -105,7 +105,7 @@ impl WireEnd {
     ghost use Rattle.wire_end.specs.declared.wire.Wire.{Wire as AWire};
     ghost use Rattle.wire_end.specs.Wirings.{begun, kept, printed, wire_at, Posts, Refuses, Unsent as IsUnsent};
     ghost use Rattle.wire_end.specs.Links.{HearsPart};
-    ghost use Rattle.wire_end.specs.Hearing.{Hears, Loses, laid};
+    ghost use Rattle.wire_end.specs.Hearing.{Hears, Loses, laid, read_at};
     ghost use Rattle.wire_end.specs.Orders.{orders_of};
 
     /// The end of this node of a world: nothing came or went.
@@ -159,7 +159,7 @@ impl WireEnd {
     ) -> Result<Option<Letter>, HearFault>
         requires { place < length self.old.wires }
         ensures ok { IfOk result (λ letter. (wire : AWire) × HearsPart line.number line.part (wire_at place self.old.wires) wire (Ok letter)
-            × (self.new ≡ record self.old { wires = slice_set self.old.wires place wire; read = self.old.read ++ (from.now, line) ∷ [] })) }
+            × (self.new ≡ read_at place wire from.now line self.old)) }
         ensures err { IfErr result (λ fault. HearsPart line.number line.part (wire_at place self.old.wires) (wire_at place self.old.wires) (Err fault)
             × (self.new ≡ self.old)) }
     {
@@ -171,6 +171,8 @@ impl WireEnd {
     }
 
     /// The next line of the link with this node was read. A letter that is whole now waits to be taken, with the stamp of its last line.
+    /// A line that isn't taken changed nothing, but where memory was refused for the letter that it ends: then the line is read and the
+    /// letter is lost, so the end isn't to be used any more.
     pub fn hear(&mut self, from: &Node, line: LinkLine) -> Result<(), HearFault>
         ensures { Hears from.now line result self.old self.new }
     {
@@ -185,6 +187,7 @@ impl WireEnd {
     }
 
     /// Another node is gone without a word: that is read as its letter that it has left, behind all that came of it, unless that came.
+    /// Where there is no such node, or memory is refused, nothing changed.
     pub fn lose(&mut self, node: &Node) -> Result<(), HearFault>
         ensures { Loses node.now result self.old self.new }
     {

@@ -1,7 +1,8 @@
-//! A script that is played to its end, and readers and writers that fail.
+//! A script that is played to its end, and readers and writers that fail at each point.
 use cluster_script::{ScriptFault, run_script};
+use failing_streams::{Full, Shy, Torn};
 use std::alloc::Global;
-use std::io::{self, BufReader, Cursor, Error, ErrorKind, Read, Write};
+use std::io::{BufReader, Cursor, Read, Write};
 use std::test::Fail;
 
 /// A script.
@@ -9,69 +10,6 @@ const SCRIPT: &[u8] = b"cluster a\nspawn a\nregister a x a.1\nsettle\nwhereis a 
 
 /// What it prints.
 const TEXT: &[u8] = b"a.1\na#1 yes\nsettled\na.1\n";
-
-/// A reader that is interrupted once, and fails behind its bytes.
-#[derive(Drop)]
-struct Torn<'a> {
-    bytes: &'a [u8],
-    is_interrupted: bool,
-}
-
-impl<'a> Read for Torn<'a> {
-    fn read(&mut self, buf: &mut [u8]) -> io::Result<usize> {
-        if !self.is_interrupted {
-            self.is_interrupted = true;
-            return Err(Error::from(ErrorKind::Interrupted));
-        }
-        if self.bytes.is_empty() {
-            return Err(Error::from(ErrorKind::BrokenPipe));
-        }
-        self.bytes.read(buf)
-    }
-}
-
-/// A writer that is interrupted once and takes so many bytes. Then it fails, or takes none.
-#[derive(Drop)]
-struct Full {
-    taken: Vec<u8>,
-    room: usize,
-    fails: bool,
-    is_interrupted: bool,
-}
-
-impl Write for Full {
-    fn write(&mut self, buf: &[u8]) -> io::Result<usize> {
-        if !self.is_interrupted {
-            self.is_interrupted = true;
-            return Err(Error::from(ErrorKind::Interrupted));
-        }
-        if self.room == 0 && self.fails {
-            return Err(Error::from(ErrorKind::BrokenPipe));
-        }
-        let count = buf.len().min(self.room);
-        self.taken.extend_from_slice(&buf[..count])?;
-        self.room -= count;
-        Ok(count)
-    }
-
-    fn flush(&mut self) -> io::Result<()> {
-        Ok(())
-    }
-}
-
-/// A writer that takes all, and can't hand it on.
-#[derive(Drop)]
-struct Shut;
-
-impl Write for Shut {
-    fn write(&mut self, buf: &[u8]) -> io::Result<usize> {
-        Ok(buf.len())
-    }
-
-    fn flush(&mut self) -> io::Result<()> {
-        Err(Error::from(ErrorKind::BrokenPipe))
-    }
-}
 
 /// Plays what a reader gives.
 pub(crate) fn play<R: Read + Drop, W: Write>(
@@ -106,10 +44,7 @@ fn printed_for(read: &[u8]) -> usize {
 
 /// Whether a reader's failure behind these bytes ends the script, once all is printed that was asked before.
 fn reader_ends_it(alloc: Global, read: &[u8]) -> bool {
-    let torn = Torn {
-        bytes: read,
-        is_interrupted: false,
-    };
+    let torn = Torn::new(read, read.len());
     let mut written = Vec::new(alloc);
     let result = play(alloc, torn, &mut written);
     matches!(result, Err(ScriptFault::Read))
@@ -126,12 +61,7 @@ fn readers_fail_at_each_point(rt: HostRuntime) {
 
 /// Whether a writer that has room for so much ends the script, and was given nothing but its text.
 fn writer_ends_it(alloc: Global, room: usize, fails: bool) -> bool {
-    let mut writer = Full {
-        taken: Vec::new(alloc),
-        room,
-        fails,
-        is_interrupted: false,
-    };
+    let mut writer = Full::new(Vec::new(alloc), room, fails);
     let result = play(alloc, Cursor::new(SCRIPT), &mut writer);
     matches!(result, Err(ScriptFault::Write))
         && TEXT.starts_with(writer.taken.as_slice())
@@ -148,6 +78,10 @@ fn writers_fail_at_each_point(rt: HostRuntime) {
 
 #[test]
 fn answers_that_stay_behind_are_faults(rt: HostRuntime) {
-    let result = play(rt.alloc(), Cursor::new(SCRIPT), &mut Shut);
+    let mut writer = Shy {
+        taken: Vec::new(rt.alloc()),
+        flushes: 0,
+    };
+    let result = play(rt.alloc(), Cursor::new(SCRIPT), &mut writer);
     assert!(rt; matches!(result, Err(ScriptFault::Write)));
 }

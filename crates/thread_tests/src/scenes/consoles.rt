@@ -3,17 +3,16 @@
 use crate::plays::Small;
 use clients::{Home, Leaver, Listener};
 use console::{Client, ConsoleEnd, ConsoleFault, serve, serve_staying};
+use failing_streams::{Full, Torn};
 use node_threads::{Seat, Transcript};
 use std::alloc::Global;
 use std::io::{BufReader, Cursor, Read, Write};
 use std::sync::atomic::{AtomicU32, Ordering};
 use std::sync::{Arc, Wait};
 use std::time::Clock;
-use streams::{Full, Torn};
 use term::NodeName;
 
 mod clients;
-mod streams;
 
 /// Lines of a console at one of two nodes, which leaves.
 pub(crate) const LINES: &[u8] =

@@ -1,9 +1,13 @@
-//! Readers and writers that fail.
+//! Readers and writers that fail, for tests of what reads and writes: one that is interrupted and ends in a fault, one with room for so many
+//! bytes, one that can't hand on what it took.
+#![tactic(auto)]
+ghost use Rattle.std.specs.Prelude.{◌≡◌, false};
+
 use std::io::{self, Error, ErrorKind, Read, Write};
 
 /// A reader that is interrupted once, gives so many bytes at a time, and fails behind its last.
 #[derive(Drop)]
-pub(super) struct Torn<'a> {
+pub struct Torn<'a> {
     bytes: &'a [u8],
     step: usize,
     is_interrupted: bool,
@@ -11,7 +15,9 @@ pub(super) struct Torn<'a> {
 
 impl<'a> Torn<'a> {
     /// A reader of these bytes.
-    pub(super) fn new(bytes: &'a [u8], step: usize) -> Self {
+    pub fn new(bytes: &'a [u8], step: usize) -> Self
+        ensures { result ≡ record { bytes = bytes; step = step; is_interrupted = false } }
+    {
         Torn {
             bytes,
             step,
@@ -36,8 +42,9 @@ impl<'a> Read for Torn<'a> {
 
 /// A writer that is interrupted once and takes so many bytes. Then it fails, or takes none.
 #[derive(Drop)]
-pub(super) struct Full {
-    pub(super) taken: Vec<u8>,
+pub struct Full {
+    /// What it took.
+    pub taken: Vec<u8>,
     room: usize,
     fails: bool,
     is_interrupted: bool,
@@ -45,7 +52,9 @@ pub(super) struct Full {
 
 impl Full {
     /// A writer into this memory that takes so many bytes.
-    pub(super) fn new(taken: Vec<u8>, room: usize, fails: bool) -> Self {
+    pub fn new(taken: Vec<u8>, room: usize, fails: bool) -> Self
+        ensures { result ≡ record { taken = taken; room = room; fails = fails; is_interrupted = false } }
+    {
         Full {
             taken,
             room,
@@ -71,6 +80,30 @@ impl Write for Full {
     }
 
     fn flush(&mut self) -> io::Result<()> {
+        Ok(())
+    }
+}
+
+/// A writer that takes all, hands it on so often, and fails then.
+#[derive(Drop)]
+pub struct Shy {
+    /// What it took.
+    pub taken: Vec<u8>,
+    /// How often it still hands on what it took.
+    pub flushes: usize,
+}
+
+impl Write for Shy {
+    fn write(&mut self, buf: &[u8]) -> io::Result<usize> {
+        self.taken.extend_from_slice(buf)?;
+        Ok(buf.len())
+    }
+
+    fn flush(&mut self) -> io::Result<()> {
+        if self.flushes == 0 {
+            return Err(Error::from(ErrorKind::BrokenPipe));
+        }
+        self.flushes -= 1;
         Ok(())
     }
 }
