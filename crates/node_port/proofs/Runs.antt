@@ -26,7 +26,7 @@ use Rattle.wire_end.proofs.Ordering.{stay_in_order}
 use Rattle.node_port.specs.Commands.{Taken, Follows, Refused, Strange, Misplaced, IsTaken}
 use Rattle.node_port.specs.Deeds.{Stand, IsAllTold, changes_by, replies_by}
 use Rattle.node_port.specs.Edits.{updates_of}
-use Rattle.node_port.specs.Playing.{Printed, Gives, printed_out, said, spent, is_waiting, waiting, PlaysLine, MoreOnly, PlaysAll}
+use Rattle.node_port.specs.Playing.{Printed, asked, Gives, printed_out, said, spent, is_waiting, waiting, PlaysLine, MoreOnly, PlaysAll}
 use Rattle.node_port.specs.Ran.{ReadsOne, Reads, all_updates, all_letters, all_answers, IsGiven, IsRun, core_of, opened_so, shown_behind}
 use Rattle.node_port.specs.Shown.{Shown, Tells, Counts, Gaps, Misses, Waits, Spends}
 use Rattle.node_port.specs.declared.commands.Command.TheVariants.{Ask, Steps, Letter, Down, Tick}
@@ -110,7 +110,7 @@ nothing_given a b e = subst (λ (x : Stand). Leads [] [] [] [] a x) (sym e) (lea
 gives_lead : (taken : Taken) (a b : Stand) → Gives taken a b → Leads (reads_by taken) [] [] [] a b
 gives_lead (Follows (Ask tag event)) a b G =
     by_end a b [] G.0 (ap (λ (w : Wiring). w.node) G.1) (ap (λ (w : Wiring). w.read) G.1 ∙ sym (append-nil a.end.read))
-    (λ out h. subst (InOrder out) (sym G.1) (record { read = h.read; counted = h.counted; sent = h.sent }))
+    (λ out h. subst (InOrder out) (sym G.1) (stay_in_order.asks out a.end (asked tag event) h))
 gives_lead (Follows (Letter from line)) a b G = heard_leads from line a b G.0 G.1
 gives_lead (Follows (Down n)) a b G = lost_leads n a b G.0 G.1
 gives_lead (Follows (Steps tag)) a b G = nothing_given a b G
@@ -124,7 +124,7 @@ out_leads : (a : Stand) → Leads [] a.end.lines [] [] a (printed_out a)
 out_leads a = record {
   node = refl;
   read = sym (append-nil a.end.read);
-  order = λ out h. let k = stay_in_order.prints out a.end h in record { read = k.read; counted = k.counted; sent = k.sent };
+  order = λ out h. stay_in_order.tells (out ++ a.end.lines) (record a.end { lines = [] }) (stay_in_order.prints out a.end h);
   owes = λ e h. h;
   came = λ name h. h;
   stays = λ stamp answer h. h;

@@ -177,10 +177,10 @@ answers taken s more a b given same ends G = record {
 unchanged : (fault : HearFault) (from : ℕ) (line : LinkLine) (s t : Wiring) → Hears from line (Err fault) s t → (fault ≡ Part letter.Memory → ⊥) → t ≡ s
 unchanged fault from line s t h ne = go (place from s.wires) h
   where
-    go : (at : Option ℕ) → RefusesAt at line fault s t → t ≡ s
+    go : (at : Option ℕ) → RefusesAt at from line fault s t → t ≡ s
     go None h = h.1
-    go (Some k) (inl e) = absurd (ne e)
-    go (Some k) (inr x) = x.1
+    go (Some k) (inl x) = x.1
+    go (Some k) (inr e) = absurd (ne e.0)
 
 -- what is behind a refusal
 module _ (a m b : Port) (loop : m.node ≡ a.node) (output : m.output ≡ a.output) (still : stand_of b ≡ stand_of m) where
@@ -235,7 +235,7 @@ module _ (a m b : Port) (loop : m.node ≡ a.node) (output : m.output ≡ a.outp
       go : (at : Option ℕ) → LosesAt at node (Err fault) a.end m.end
           → (taken : Taken) × TakenAs (Down node) taken × PlaysAt taken s (spent s) a b
       go None h = (Strange, refl, strange (cc (h.0)) h.1)
-      go (Some k) h = absurd ((subst (λ (x : HearFault). RefusesFor x node 0 s m b) h R).1 refl)
+      go (Some k) h = absurd ((subst (λ (x : HearFault). RefusesFor x node 0 s m b) h.0 R).1 refl)
 
 -- and the last word of a line
 pub waits : (taken : Taken) (s : Standing) (more w : List Shown) (a b c : Port) → PlaysAt taken s more a b → stand_of c ≡ stand_of b
