@@ -6,4 +6,4 @@ mod ExactKinds
 mod Readings
 mod Written
 mod Printed
-mod Again
+pub mod Again

@@ -1,6 +1,7 @@
 //! The parts of letters.
 ghost use Rattle.std.specs.Prelude.{◌≡◌, ◌∷◌, ◌++◌, [], map, IfOk, OnOk};
 ghost use Rattle.letter_lines.specs.declared.part.Part.TheVariants as part;
+ghost use Rattle.letter_lines.specs.Laws.{HasSets, IsLetter};
 ghost use Rattle.letter_lines.specs.Parts.{parts_of as parts_in, items_of, last_of, admit_items, welcome_items};
 
 use crate::part::Part;
@@ -92,7 +93,8 @@ fn push_admission(parts: &mut Vec<Part>, body: &Admission) -> Result<(), AllocEr
 
 /// The items of what a joiner is told are put behind parts.
 fn push_welcome(parts: &mut Vec<Part>, body: &Welcome) -> Result<(), AllocError>
-    ensures { OnOk result (parts.new.items ≡ parts.old.items ++ welcome_items body.now) }
+    ensures items { OnOk result (parts.new.items ≡ parts.old.items ++ welcome_items body.now) }
+    ensures sets { OnOk result (HasSets body.now) }
 {
     push_members(parts, body.members.as_slice())?;
     push_pairs(parts, body.pairs.as_slice())?;
@@ -125,7 +127,8 @@ fn last_part(letter: &Letter) -> Part
 
 /// The items of a letter are put behind parts.
 fn push_items(parts: &mut Vec<Part>, letter: &Letter) -> Result<(), AllocError>
-    ensures { OnOk result (parts.new.items ≡ parts.old.items ++ items_of letter.now) }
+    ensures items { OnOk result (parts.new.items ≡ parts.old.items ++ items_of letter.now) }
+    ensures letter { OnOk result (IsLetter letter.now) }
 {
     match letter {
         Letter::JoinAsk(pairs) => push_pairs(parts, pairs.as_slice()),
@@ -135,10 +138,11 @@ fn push_items(parts: &mut Vec<Part>, letter: &Letter) -> Result<(), AllocError>
     }
 }
 
-/// The parts of a letter, in the order in which they are to be printed: its items, and behind them the letter itself. `AllocError`:
-/// memory was refused.
+/// The parts of a letter, in the order in which they are to be printed: its items, and behind them the letter itself. The sets of the
+/// letter are such that it is read from its parts again. `AllocError`: memory was refused.
 pub fn parts_of(alloc: Global, letter: &Letter) -> Result<Vec<Part>, AllocError>
-    ensures { IfOk result (λ parts. parts.items ≡ parts_in letter.now) }
+    ensures parts { IfOk result (λ parts. parts.items ≡ parts_in letter.now) }
+    ensures letter { OnOk result (IsLetter letter.now) }
 {
     let mut parts = Vec::new(alloc);
     push_items(&mut parts, letter)?;

@@ -46,13 +46,13 @@ taken_by s to l = go (to == s.node)
 
 -- the links lead where they led
 module _ (p : ℕ → Bool) where
-  led_at : (wires : List Wire) (k : ℕ) (w : Wire) → w.node ≡ (wire_at k wires).node
+  pub led_at : (wires : List Wire) (k : ℕ) (w : Wire) → w.node ≡ (wire_at k wires).node
       → list_all (λ v. p v.node) (set wires k w) ≡ list_all (λ v. p v.node) wires
   led_at [] k w same = refl
   led_at (v ∷ vs) zero w same = ap (λ (n : ℕ). p n && list_all (λ v. p v.node) vs) same
   led_at (v ∷ vs) (suc k) w same = ap (λ (b : Bool). p v.node && b) (led_at vs k w same)
 
-  led : (at : Option ℕ) (count : ℕ) (wires : List Wire)
+  pub led : (at : Option ℕ) (count : ℕ) (wires : List Wire)
       → list_all (λ w. p w.node) (with_lines_at at count wires) ≡ list_all (λ w. p w.node) wires
   led None count wires = refl
   led (Some k) count wires =

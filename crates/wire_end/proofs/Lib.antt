@@ -1,3 +1,4 @@
 pub mod Places
 pub mod Ordering
 pub mod Dealing
+pub mod Own

@@ -1,7 +1,7 @@
 -- An end of lines stays in order.
 use Rattle.std.proofs.Common.{ℕ, Bool, true, false, ◌≡◌, ◌==◌, ◌+◌, inl, inr, Option, Some, None, Ok, List, [], ◌∷◌, ◌++◌, map, length, set, refl, sym, ap, subst, ◌∙◌, append-nil, append_assoc, length-append, arith, option_map}
 use Rattle.std.specs.Prelude.{if◌then◌else◌, ◌||◌, not, is_some, filter}
-use Rattle.std.specs.List.{sum_by}
+use Rattle.std.specs.List.{sum_by, AllByRecursion}
 use Rattle.std.proofs.lemmas.Bool.{and_parts, not-true, eqb-true, ne_eqb, eq-eqb}
 use Rattle.std.proofs.lemmas.Grind.{flat_map-append}
 use Rattle.std.proofs.lemmas.List.{map-append}
@@ -11,6 +11,7 @@ use Rattle.node_events.specs.declared.events.Letter.{Letter as ALetter}
 use Rattle.protocol_model.specs.Letter.{Letter as AnyLetter}
 use Rattle.letter_lines.specs.Gathered.{Gathered, Taken, taken, nothing}
 use Rattle.node_events.specs.Letters.{letter_of}
+use Rattle.letter_lines.specs.Laws.{IsLetter}
 use Rattle.letter_lines.specs.Parts.{parts_of}
 use Rattle.node_loop.specs.Alone.{Stamped as StampedLetter}
 use Rattle.node_loop.specs.declared.item.Item.{Item}
@@ -24,7 +25,7 @@ use Rattle.wire_end.specs.Hearing.{HearsAt, LosesAt, laid_if, lost_where, closed
 use Rattle.wire_end.specs.Links.{HearsPart, read_on}
 use Rattle.wire_end.specs.Order.{AreNumbered, seen, ended_by, onward, spelled_on, Spells, lines_to, text_behind, texts_behind, came_of, InOrder, StayInOrder}
 use Rattle.wire_end.specs.Sending.{letter_text}
-use Rattle.wire_end.specs.Wirings.{place, wire_at, wire_if, link_with, with_lines_at, kept, printed, Posts, Takes, begun}
+use Rattle.wire_end.specs.Wirings.{place, wire_at, wire_if, link_with, with_lines_at, kept, printed, IsReadAgain, Posts, Takes, begun}
 use Rattle.wire_end.proofs.Places.{at-place, link-set_same, link-set_other, new-unused}
 
 -- what there is of a node behind one more
@@ -45,10 +46,10 @@ more-other {A = A} n m x pairs ne =
     more-of n x pairs m ∙ ap (λ (b : Bool). if b then of_node n pairs ++ x ∷ [] else of_node m pairs) (ne_eqb m n ne)
 
 -- the first of them
-first-same : {A : Type 0} (n : ℕ) (x : A) (pairs : List (ℕ × A)) → of_node n ((n, x) ∷ pairs) ≡ x ∷ of_node n pairs
+pub first-same : {A : Type 0} (n : ℕ) (x : A) (pairs : List (ℕ × A)) → of_node n ((n, x) ∷ pairs) ≡ x ∷ of_node n pairs
 first-same {A = A} n x pairs = ap (λ (b : Bool). (if b then x ∷ [] else []) ++ of_node n pairs) (eq-eqb n n refl)
 
-first-other : {A : Type 0} (n m : ℕ) (x : A) (pairs : List (ℕ × A)) → (m ≡ n → ⊥) → of_node m ((n, x) ∷ pairs) ≡ of_node m pairs
+pub first-other : {A : Type 0} (n m : ℕ) (x : A) (pairs : List (ℕ × A)) → (m ≡ n → ⊥) → of_node m ((n, x) ∷ pairs) ≡ of_node m pairs
 first-other {A = A} n m x pairs ne = ap (λ (b : Bool). (if b then x ∷ [] else []) ++ of_node m pairs) (ne_eqb m n ne)
 
 -- a line more
@@ -125,7 +126,7 @@ came-other : (f m : ℕ) (l : Stamped) (s : Wiring) → (m ≡ f → ⊥)
 came-other f m l s ne = ap (λ (xs : List Stamped). of_node m s.taken ++ xs) (more-other f m l s.heard ne)
 
 -- each node, or another
-each : (a : ℕ) (P : ℕ → Type 0) → P a → ((x : ℕ) → (x ≡ a → ⊥) → P x) → (x : ℕ) → P x
+pub each : (a : ℕ) (P : ℕ → Type 0) → P a → ((x : ℕ) → (x ≡ a → ⊥) → P x) → (x : ℕ) → P x
 each a P here there x = by_test a (λ y b. P y) here there x
 
 -- the line is heard at the place of its link
@@ -173,6 +174,7 @@ heard out s from line k v letter e hears h = by_letter letter refl
           (sym (append-nil (came_of from s))) (λ f ne. refl);
       counted = counted;
       sent = h.sent;
+      letters = h.letters;
     }
     by_letter (Some l) same = record {
       read = read (record { stamp = line.stamp; letter = l } ∷ [])
@@ -182,6 +184,7 @@ heard out s from line k v letter e hears h = by_letter letter refl
           (λ f ne. came-other from f (record { stamp = line.stamp; letter = l }) s ne);
       counted = counted;
       sent = h.sent;
+      letters = h.letters;
     }
 
 hears : (out : List ℕ) (s : Wiring) (from : ℕ) (line : LinkLine) (t : Wiring) → InOrder out s
@@ -247,6 +250,7 @@ lost out s n k e h = go (wire_at k s.wires).is_down refl
           (λ x ne other.
           ap (λ (w : Wire). w.written) (link-set_other n x k (closed (wire_at k s.wires)) s.wires e own ne) ∙ h.counted x other);
       sent = h.sent;
+      letters = h.letters;
     }
 
 loses : (out : List ℕ) (s : Wiring) (n : ℕ) (t : Wiring) → InOrder out s → LosesAt (place n s.wires) n (Ok tt) s t → InOrder out t
@@ -285,16 +289,22 @@ keeps out s l h = record {
   sent = h.sent ∙ (sym (append-nil (texts_behind s.node [] s.sent))
       ∙ (ap (λ (b : Bool). texts_behind s.node [] s.sent ++ (if b then [] else letter_text s.node (lines_to s.node s.sent) l)) (sym (eq-eqb s.node s.node refl))
       ∙ sym (texts-more s.node [] s.sent (s.node, l))));
+  letters = λ t other. subst (AllByRecursion (λ (x : Stamped). IsLetter x.letter)) (sym (more-other s.node t l s.sent other)) (h.letters t other);
 }
 
+letters-more : (ls : List Stamped) (l : Stamped) → AllByRecursion (λ (x : Stamped). IsLetter x.letter) ls → IsLetter l.letter
+    → AllByRecursion (λ (x : Stamped). IsLetter x.letter) (ls ++ l ∷ [])
+letters-more [] l h is = (is, tt)
+letters-more (x ∷ ls) l h is = (h.0, letters-more ls l h.1 is)
+
 -- one to another
-prints : (out : List ℕ) (s : Wiring) (to k : ℕ) (l : Stamped) → (to ≡ s.node → ⊥) → place to s.wires ≡ Some k → InOrder out s
-    → InOrder out (record s {
+prints : (out : List ℕ) (s : Wiring) (to k : ℕ) (l : Stamped) → (to ≡ s.node → ⊥) → place to s.wires ≡ Some k → IsLetter l.letter
+    → InOrder out s → InOrder out (record s {
       wires = set s.wires k (record (wire_at k s.wires) { written = (wire_at k s.wires).written + length (parts_of l.letter) });
       lines = s.lines ++ letter_text to (link_with to s.wires).written l;
       sent = s.sent ++ (to, l) ∷ [];
     })
-prints out s to k l other e h = record {
+prints out s to k l other e is h = record {
   read = each to
       (λ f. (f ≡ s.node → ⊥) → Spells (link_with f (set s.wires k grown)) (of_node f s.read) (came_of f s))
       (λ ne. subst (λ w. Spells w (of_node to s.read) (came_of to s)) (sym (link-set_same to k grown s.wires e own))
@@ -324,6 +334,10 @@ prints out s to k l other e h = record {
       ∙ (ap (λ (n : ℕ). texts_behind s.node [] s.sent ++ letter_text to n l) (h.counted to other)
       ∙ (ap (λ (b : Bool). texts_behind s.node [] s.sent ++ (if b then [] else letter_text to (lines_to to s.sent) l)) (sym (ne_eqb to s.node other))
       ∙ sym (texts-more s.node [] s.sent (to, l)))));
+  letters = each to (λ t. (t ≡ s.node → ⊥) → AllByRecursion (λ (x : Stamped). IsLetter x.letter) (of_node t (s.sent ++ (to, l) ∷ [])))
+      (λ ne.
+      subst (AllByRecursion (λ (x : Stamped). IsLetter x.letter)) (sym (more-same to l s.sent)) (letters-more (of_node to s.sent) l (h.letters to ne) is))
+      (λ t ne there. subst (AllByRecursion (λ (x : Stamped). IsLetter x.letter)) (sym (more-other to t l s.sent ne)) (h.letters t there));
 }
   where
     grown : Wire
@@ -339,20 +353,21 @@ prints out s to k l other e h = record {
     here ne = subst (λ w. Spells w (of_node to s.read) (came_of to s)) before (h.read to ne)
 
 sends : (out : List ℕ) (s : Wiring) (to : ℕ) (i : Item) (t : Wiring) → InOrder out s → Posts s to i t → InOrder out t
-sends out s to (Letter l) t h step = subst (InOrder out) (sym step.1) (go (to == s.node) refl step.0)
+sends out s to (Letter l) t h step = subst (InOrder out) (sym step.1) (go (to == s.node) refl step.0 step.2)
   where
-    at : (b : Option ℕ) → place to s.wires ≡ b → is_some b ≡ true → (to ≡ s.node → ⊥)
+    at : (b : Option ℕ) → place to s.wires ≡ b → is_some b ≡ true → (to ≡ s.node → ⊥) → IsLetter l.letter
         → InOrder out (record s {
           wires = with_lines_at b (length (parts_of l.letter)) s.wires;
           lines = s.lines ++ letter_text to (link_with to s.wires).written l;
           sent = s.sent ++ (to, l) ∷ [];
         })
-    at None e some ne = absurd (cc some)
-    at (Some k) e some ne = prints out s to k l ne e h
+    at None e some ne is = absurd (cc some)
+    at (Some k) e some ne is = prints out s to k l ne e is h
 
-    go : (b : Bool) → (to == s.node) ≡ b → (b || is_some (place to s.wires)) ≡ true → InOrder out (if b then kept l s else printed to l s)
-    go true e some = keeps out s l h
-    go false e some = at (place to s.wires) refl some (λ same. cc (e, eq-eqb to s.node same))
+    go : (b : Bool) → (to == s.node) ≡ b → (b || is_some (place to s.wires)) ≡ true → IsReadAgain b l.letter
+        → InOrder out (if b then kept l s else printed to l s)
+    go true e some is = keeps out s l h
+    go false e some is = at (place to s.wires) refl some (λ same. cc (e, eq-eqb to s.node same)) is
 sends out s to (Task k) t h step = absurd step
 
 -- a letter that waited is taken
@@ -364,6 +379,7 @@ takes-own out s from l own same h = record {
       (ap (λ (xs : List Stamped). xs ++ of_node f s.heard) (sym (more-other from f l s.taken (λ e. other (e ∙ same))))) (h.read f other);
   counted = h.counted;
   sent = h.sent;
+  letters = h.letters;
 }
 
 taken-now : (from : ℕ) (l : Stamped) (s : Wiring) (rest : List (ℕ × Stamped)) → s.heard ≡ (from, l) ∷ rest → (f : ℕ)
@@ -386,13 +402,14 @@ takes-others out s from l rest e h = record {
       subst (λ xs. Spells (link_with f s.wires) (of_node f s.read) xs) (sym (taken-now from l s rest e f)) (h.read f other);
   counted = h.counted;
   sent = h.sent;
+  letters = h.letters;
 }
 
 gives : (out : List ℕ) (s : Wiring) (from : ℕ) (i : Item) (t : Wiring) → InOrder out s → Takes s from i t → InOrder out t
 gives out s from (Letter l) t h (inl st) = subst (InOrder out) (sym st.rest) (takes-own out s from l t.own st.own h)
 gives out s from (Letter l) t h (inr st) = subst (InOrder out) (sym st.rest) (takes-others out s from l t.heard st.oldest h)
 gives out s from (Task k) t h st =
-    subst (InOrder out) (sym st.rest) (record { read = h.read; counted = h.counted; sent = h.sent })
+    subst (InOrder out) (sym st.rest) (record { read = h.read; counted = h.counted; sent = h.sent; letters = h.letters })
 
 begins : (node : ℕ) (world : List ℕ) → InOrder [] (begun node world)
 begins node world = record {
@@ -411,6 +428,7 @@ begins node world = record {
       };
   counted = λ t other. (new-unused t (filter (λ n. not (n == node)) world)).written;
   sent = refl;
+  letters = λ t other. tt;
 }
 
 pub stay_in_order : StayInOrder
@@ -420,8 +438,8 @@ stay_in_order = record {
   gives = gives;
   hears = hears;
   loses = loses;
-  asks = λ out s task h. record { read = h.read; counted = h.counted; sent = h.sent };
+  asks = λ out s task h. record { read = h.read; counted = h.counted; sent = h.sent; letters = h.letters };
   prints = λ out s h.
-      record { read = h.read; counted = h.counted; sent = append-nil (out ++ s.lines) ∙ h.sent };
-  tells = λ out s h. record { read = h.read; counted = h.counted; sent = h.sent };
+      record { read = h.read; counted = h.counted; sent = append-nil (out ++ s.lines) ∙ h.sent; letters = h.letters };
+  tells = λ out s h. record { read = h.read; counted = h.counted; sent = h.sent; letters = h.letters };
 }

@@ -3,7 +3,9 @@ use Rattle.std.specs.Prelude.{ℕ, Bool, true, false, ◌≡◌, ◌⊎◌, ◌=
 use Rattle.std.specs.List.{position}
 use Rattle.link.specs.declared.faults.LinkFault.{LinkFault}
 use Rattle.link.specs.declared.faults.LinkFault.TheVariants.{NoSuchNode, Memory}
+use Rattle.node_events.specs.declared.events.Letter.{Letter as ALetter}
 use Rattle.letter_lines.specs.Gathered.{nothing}
+use Rattle.letter_lines.specs.Laws.{IsLetter}
 use Rattle.letter_lines.specs.Parts.{parts_of}
 use Rattle.node_loop.specs.declared.item.Item.{Item}
 use Rattle.node_loop.specs.declared.item.Item.TheVariants.{Letter, Task}
@@ -57,9 +59,14 @@ printed to l s = record s {
 abbrev pub posted : ℕ → Stamped → Wiring → Wiring
 posted to l s = if to == s.node then kept l s else printed to l s
 
+-- a letter to another, which goes on a line, is one that is read again from its parts
+abbrev pub IsReadAgain : Bool → ALetter → Type 0
+IsReadAgain true l = Unit {0}
+IsReadAgain false l = IsLetter l
+
 -- a letter goes on its way; a task is the node's own, and goes on no line
 abbrev pub Posts : Wiring → ℕ → Item → Wiring → Type 0
-Posts s to (Letter l) t = (reaches to s ≡ true) × (t ≡ posted to l s)
+Posts s to (Letter l) t = (reaches to s ≡ true) × (t ≡ posted to l s) × IsReadAgain (to == s.node) l.letter
 Posts s to (Task k) t = ⊥
 
 -- it is handed back: there is no such node, or no memory, or no number is left for a line

@@ -1,5 +1,6 @@
 //! The lines of a letter.
 ghost use Rattle.std.specs.Prelude.{◌≡◌, ◌+◌, ◌++◌, length, IfOk, OnOk, string_bytes};
+ghost use Rattle.letter_lines.specs.Laws.{IsLetter};
 ghost use Rattle.letter_lines.specs.Parts.{parts_of as parts_in};
 ghost use Rattle.wire_end.specs.Sending.{letter_text, line_of};
 
@@ -36,6 +37,7 @@ pub(crate) fn send_lines(
 ) -> Result<(String, u64), AllocError>
     ensures text { IfOk result (λ r. string_bytes r.0 ≡ letter_text to.now written stamped.now) }
     ensures count { IfOk result (λ r. r.1 ≡ written + length (parts_in stamped.now.letter)) }
+    ensures letter { OnOk result (IsLetter stamped.now.letter) }
 {
     let parts = parts_of(alloc, &stamped.letter)?;
     let mut text = String::new(alloc);

@@ -100,6 +100,7 @@ fn new_wires(alloc: Global, node: &Node, world: &NodeSet) -> Result<Vec<Wire>, A
 
 impl WireEnd {
     ghost use Rattle.std.specs.Prelude.{◌≡◌, ◌<◌, ◌∷◌, ◌++◌, [], true, Ok, Err, is_some, length, slice_set, string_bytes, IfOk, OnOk, OnErr, IfErr, MatchResult, MatchOption};
+    ghost use Rattle.letter_lines.specs.Laws.{IsLetter};
     ghost use Rattle.link.specs.declared.faults.LinkFault.TheVariants.{Memory};
     ghost use Rattle.node_loop.specs.declared.item.Item.TheVariants.{Letter as LetterItem};
     ghost use Rattle.wire_end.specs.declared.wire.Wire.{Wire as AWire};
@@ -250,7 +251,7 @@ impl WireEnd {
     /// The lines of a letter to another node are to be printed, behind the others, as the next of the link with it.
     fn print(&mut self, to: &Node, stamped: &Stamped) -> Result<(), LinkFault>
         ensures { MatchResult result
-            (λ _. (is_some (place to.now self.old.wires) ≡ true) × (self.new ≡ printed to.now stamped.now self.old))
+            (λ _. (is_some (place to.now self.old.wires) ≡ true) × (self.new ≡ printed to.now stamped.now self.old) × IsLetter stamped.now.letter)
             (λ fault. IsUnsent fault (is_some (place to.now self.old.wires)) × (self.new ≡ self.old)) }
     {
         let Some(place) = place_of(self.wires.as_slice(), to) else {
