@@ -25,19 +25,18 @@ use Rattle.node_loop.proofs.Moving.{IsKept, turns, turn_of}
 use Rattle.node_loop.proofs.Owing.{turns_keep}
 use Rattle.wire_end.specs.declared.line.LinkLine.{LinkLine}
 use Rattle.wire_end.specs.declared.wire_end.Wiring.{Wiring}
-use Rattle.wire_end.specs.Order.{InOrder}
 use Rattle.wire_end.specs.Wirings.{Posts, Refuses, Takes, Misses}
-use Rattle.wire_end.proofs.Ordering.{stay_in_order}
 use Rattle.node_port.specs.Deeds.{Stand, Deed, Turn, Show, Hand, Does, DoesAll, change_by, changes_by, reply_by, replies_by}
 use Rattle.node_port.specs.Edits.{Changed, Edited, Stood, update_of, updates_of}
 use Rattle.node_port.specs.Ran.{IsGiven, shown_behind}
 use Rattle.node_port.specs.Shown.{Shown, Tells}
 use Rattle.node_port.proofs.Moves.{turn_holds, same_by_post}
+use Rattle.node_port.proofs.Ordering.{IsOrdered, stay_ordered}
 
 pub record Leads (reads : List (ℕ × LinkLine)) (letters : List ℕ) (updates : List Update) (answers : List Shown) (a b : Stand) : Type 0 where
   pub node : b.end.node ≡ a.end.node
   pub read : b.end.read ≡ a.end.read ++ reads
-  pub order : (out : List ℕ) → InOrder out a.end → InOrder (out ++ letters) b.end
+  pub order : (out : List ℕ) → IsOrdered out a.end → IsOrdered (out ++ letters) b.end
   pub owes : (e : Edition) → Owes a.loop e → Owes b.loop (shown_behind e updates)
   pub came : (name : ℕ) → IsLoopOf name a.loop → IsLoopOf name b.loop
   pub stays : (stamp : ℕ) (answer : AnyAnswer) → LogsAnswer a.loop.log stamp answer → LogsAnswer b.loop.log stamp answer
@@ -68,7 +67,7 @@ pub leads_none : (a : Stand) → Leads [] [] [] [] a a
 leads_none a = record {
   node = refl;
   read = sym (append-nil a.end.read);
-  order = λ out h. subst (λ (t : List ℕ). InOrder t a.end) (sym (append-nil out)) h;
+  order = λ out h. subst (λ (t : List ℕ). IsOrdered t a.end) (sym (append-nil out)) h;
   owes = λ e h. h;
   came = λ name h. h;
   stays = λ stamp answer h. h;
@@ -80,7 +79,7 @@ pub leads_on : (r q : List (ℕ × LinkLine)) (l m : List ℕ) (us vs : List Upd
 leads_on r q l m us vs xs ys a b c A B = record {
   node = B.node ∙ A.node;
   read = B.read ∙ (ap (λ (z : List (ℕ × LinkLine)). z ++ q) A.read ∙ append_assoc a.end.read r q);
-  order = λ out h. subst (λ (t : List ℕ). InOrder t c.end) (append_assoc out l m) (B.order (out ++ l) (A.order out h));
+  order = λ out h. subst (λ (t : List ℕ). IsOrdered t c.end) (append_assoc out l m) (B.order (out ++ l) (A.order out h));
   owes = λ e h. subst (Owes c.loop) (sym (shown_on e us vs)) (B.owes (shown_behind e us) (A.owes e h));
   came = λ name h. B.came name (A.came name h);
   stays = λ stamp answer h. B.stays stamp answer (A.stays stamp answer h);
@@ -157,8 +156,8 @@ turn_leads r a b T = record {
       (λ s to i t h e. same_by_post (λ (u : Wiring). u.read) (λ s l. refl) (λ s to l. refl) s to i t h a.end.read e)
       (λ s from i t h e. read_by_taking s from i t h a.end.read e) a.loop a.end r b.loop b.end T refl
       ∙ sym (append-nil a.end.read);
-  order = λ out h. subst (λ (x : List ℕ). InOrder x b.end) (sym (append-nil out))
-      (turn_holds (InOrder out) (λ s to i t p k. stay_in_order.sends out s to i t k p) (λ s from i t p k. stay_in_order.gives out s from i t k p)
+  order = λ out h. subst (λ (x : List ℕ). IsOrdered x b.end) (sym (append-nil out))
+      (turn_holds (IsOrdered out) (λ s to i t p k. stay_ordered.sends out s to i t k p) (λ s from i t p k. stay_ordered.gives out s from i t k p)
       a.loop a.end r b.loop b.end T h);
   owes = λ e h. turns_keep a.loop b.loop moved e h;
   came = λ name h. moves_on name a.loop b.loop (inl moved) h;
@@ -177,8 +176,8 @@ module _ (a b : Stand) (same : b.end ≡ a.end) where
   read_as : b.end.read ≡ a.end.read ++ []
   read_as = ap (λ (u : Wiring). u.read) same ∙ sym (append-nil a.end.read)
 
-  order_as : (out : List ℕ) → InOrder out a.end → InOrder (out ++ []) b.end
-  order_as out h = subst (λ (x : List ℕ). InOrder x b.end) (sym (append-nil out)) (subst (InOrder out) (sym same) h)
+  order_as : (out : List ℕ) → IsOrdered out a.end → IsOrdered (out ++ []) b.end
+  order_as out h = subst (λ (x : List ℕ). IsOrdered x b.end) (sym (append-nil out)) (subst (IsOrdered out) (sym same) h)
 
 -- what changed is shown
 show_leads : (c : Changed) (a b : Stand) → Does (Show c) a b → Leads [] [] (update_of c) [] a b

@@ -20,9 +20,7 @@ use Rattle.node_loop.specs.Owing.{LeadsTo, Owes, shown_by}
 use Rattle.wire_end.specs.declared.line.LinkLine.{LinkLine}
 use Rattle.wire_end.specs.declared.wire_end.Wiring.{Wiring}
 use Rattle.wire_end.specs.Hearing.{HearsAt, LosesAt, laid_if, lost_where}
-use Rattle.wire_end.specs.Order.{InOrder}
 use Rattle.wire_end.specs.Wirings.{place, wire_at, begun as begun_end}
-use Rattle.wire_end.proofs.Ordering.{stay_in_order}
 use Rattle.node_port.specs.Commands.{Taken, Follows, Refused, Strange, Misplaced, IsTaken}
 use Rattle.node_port.specs.Deeds.{Stand, IsAllTold, changes_by, replies_by}
 use Rattle.node_port.specs.Edits.{updates_of}
@@ -34,6 +32,7 @@ use Rattle.node_port.specs.declared.port.Standing.{Standing}
 use Rattle.node_port.specs.declared.port.Standing.TheVariants.{Runs, HasLeft, Broken, Spent}
 use Rattle.node_port.proofs.Leading.{Leads, leads_none, leads_on, leads_as, deeds_lead}
 use Rattle.node_port.proofs.Soundness.{lines_sound, opens_sound}
+use Rattle.node_port.proofs.Ordering.{IsOrdered, stay_ordered}
 
 -- the line of a link that is read
 abbrev reads_by : Taken → List (ℕ × LinkLine)
@@ -51,12 +50,12 @@ one_read bytes Strange h = tt
 one_read bytes (Misplaced from line) h = tt
 
 -- what a line gives to the node's end
-module _ (a b : Stand) (reads : List (ℕ × LinkLine)) (loop : b.loop ≡ a.loop) (node : b.end.node ≡ a.end.node) (read : b.end.read ≡ a.end.read ++ reads) (order : (out : List ℕ) → InOrder out a.end → InOrder out b.end) where
+module _ (a b : Stand) (reads : List (ℕ × LinkLine)) (loop : b.loop ≡ a.loop) (node : b.end.node ≡ a.end.node) (read : b.end.read ≡ a.end.read ++ reads) (order : (out : List ℕ) → IsOrdered out a.end → IsOrdered out b.end) where
   by_end : Leads reads [] [] [] a b
   by_end = record {
     node = node;
     read = read;
-    order = λ out h. subst (λ (t : List ℕ). InOrder t b.end) (sym (append-nil out)) (order out h);
+    order = λ out h. subst (λ (t : List ℕ). IsOrdered t b.end) (sym (append-nil out)) (order out h);
     owes = λ e h. subst (λ (l : Looping). Owes l e) (sym loop) h;
     came = λ name h. subst (IsLoopOf name) (sym loop) h;
     stays = λ stamp answer h. subst (λ (l : Looping). LogsAnswer l.log stamp answer) (sym loop) h;
@@ -75,7 +74,7 @@ heard_leads : (from : ℕ) (line : LinkLine) (a b : Stand) → b.loop ≡ a.loop
     → Leads ((from, line) ∷ []) [] [] [] a b
 heard_leads from line a b loop H =
     by_end a b ((from, line) ∷ []) loop (go (place from a.end.wires) H).0 (go (place from a.end.wires) H).1
-    (λ out h. stay_in_order.hears out a.end from line b.end h H)
+    (λ out h. stay_ordered.hears out a.end from line b.end h H)
   where
     go : (at : Option ℕ) → HearsAt at from line a.end b.end → (b.end.node ≡ a.end.node) × (b.end.read ≡ a.end.read ++ (from, line) ∷ [])
     go None h = absurd h
@@ -95,7 +94,7 @@ lost_read false n k s = refl
 lost_leads : (n : ℕ) (a b : Stand) → b.loop ≡ a.loop → LosesAt (place n a.end.wires) n (Ok tt) a.end b.end → Leads [] [] [] [] a b
 lost_leads n a b loop H =
     by_end a b [] loop (go (place n a.end.wires) H).0 ((go (place n a.end.wires) H).1 ∙ sym (append-nil a.end.read))
-    (λ out h. stay_in_order.loses out a.end n b.end h H)
+    (λ out h. stay_ordered.loses out a.end n b.end h H)
   where
     go : (at : Option ℕ) → LosesAt at n (Ok tt) a.end b.end → (b.end.node ≡ a.end.node) × (b.end.read ≡ a.end.read)
     go None h = absurd (cc (h.0))
@@ -110,7 +109,7 @@ nothing_given a b e = subst (λ (x : Stand). Leads [] [] [] [] a x) (sym e) (lea
 gives_lead : (taken : Taken) (a b : Stand) → Gives taken a b → Leads (reads_by taken) [] [] [] a b
 gives_lead (Follows (Ask tag event)) a b G =
     by_end a b [] G.0 (ap (λ (w : Wiring). w.node) G.1) (ap (λ (w : Wiring). w.read) G.1 ∙ sym (append-nil a.end.read))
-    (λ out h. subst (InOrder out) (sym G.1) (stay_in_order.asks out a.end (asked tag event) h))
+    (λ out h. subst (IsOrdered out) (sym G.1) (stay_ordered.asks out a.end (asked tag event) h))
 gives_lead (Follows (Letter from line)) a b G = heard_leads from line a b G.0 G.1
 gives_lead (Follows (Down n)) a b G = lost_leads n a b G.0 G.1
 gives_lead (Follows (Steps tag)) a b G = nothing_given a b G
@@ -124,7 +123,7 @@ out_leads : (a : Stand) → Leads [] a.end.lines [] [] a (printed_out a)
 out_leads a = record {
   node = refl;
   read = sym (append-nil a.end.read);
-  order = λ out h. stay_in_order.tells (out ++ a.end.lines) (record a.end { lines = [] }) (stay_in_order.prints out a.end h);
+  order = λ out h. stay_ordered.tells (out ++ a.end.lines) (record a.end { lines = [] }) (stay_ordered.prints out a.end h);
   owes = λ e h. h;
   came = λ name h. h;
   stays = λ stamp answer h. h;
@@ -269,7 +268,8 @@ is_run node world founds rising ls s out b P =
       node = C.leads.node;
       sound = λ o I opens. lines_sound o ls s (opened_so node world founds) out b P (opens_sound o node world founds rising I opens);
       read = subst (Reads ls) (sym C.leads.read) C.read;
-      order = C.leads.order [] (stay_in_order.begins node world);
+      order = (C.leads.order [] (stay_ordered.begins node world)).0;
+      own = (C.leads.order [] (stay_ordered.begins node world)).1;
       shown = all_shown b.loop (shown_behind (opening node) (all_updates out)) (C.leads.owes (opening node) (opens_owing node world founds)) (C.told (refl, refl)).0;
       came = C.leads.came node (opens_loop node world founds);
       told = (C.told (refl, refl)).1;

@@ -19,7 +19,7 @@ use Rattle.node_loop.specs.Owing.{shown_by}
 use Rattle.node_loop.specs.Sound.{IsNodeOf, opened}
 use Rattle.node_loop.specs.Told.{Answered}
 use Rattle.wire_end.specs.declared.line.LinkLine.{LinkLine}
-use Rattle.wire_end.specs.Order.{InOrder}
+use Rattle.wire_end.specs.Order.{InOrder, KeepsOwn}
 use Rattle.wire_end.specs.Wirings.{begun as begun_end}
 use Rattle.node_port.specs.Commands.{IsLinkLine}
 use Rattle.node_port.specs.Deeds.{Stand}
@@ -71,6 +71,7 @@ pub record IsRun (core : Held) (lines : List (List ℕ)) (standing : Standing) (
   pub sound : (o : Opening) → IsNodeOf o core → node_of core ≡ opened o core → IsSoundIn standing o b
   pub read : Reads lines b.end.read
   pub order : InOrder (all_letters out) b.end
+  pub own : KeepsOwn b.end
   pub shown : shown_behind (opening core.name) (all_updates out) ≡ shown_by b.loop
   pub came : IsLoopOf core.name b.loop
   pub told : b.loop.desk.replies ≡ []
