@@ -104,7 +104,7 @@ impl Port {
     ghost use Rattle.text_lines.specs.Writing.{Writes};
     ghost use Rattle.node_loop.specs.declared.edit.Note.TheVariants.{Nothing};
     ghost use Rattle.wire_end.specs.declared.faults.HearFault.{HearFault};
-    ghost use Rattle.node_port.specs.Commands.{Taken, Follows, Refused, TakenAs};
+    ghost use Rattle.node_port.specs.Commands.{Taken, Follows, Refused as RefusedSo, TakenAs};
     ghost use Rattle.node_port.specs.Deeds.{Does, Turn};
     ghost use Rattle.node_port.specs.Edits.{Stood};
     ghost use Rattle.node_port.specs.Playing.{spent, is_waiting, waiting};
@@ -360,7 +360,7 @@ impl Port {
 
     /// Prints why a line is refused. Nothing else changes.
     pub(crate) fn refuse(&mut self, refused: &Refused) -> Result<(), AllocError>
-        ensures { OnOk result (PlaysAt (Refused refused.now.tag refused.now.fault) Runs [] self.old self.new) }
+        ensures { OnOk result (PlaysAt (RefusedSo refused.now.tag refused.now.fault) Runs [] self.old self.new) }
     {
         let Refused { tag, fault } = refused;
         push_refusal(&mut self.output.answers, *tag, fault)
