@@ -1,7 +1,6 @@
 -- What each sending and each taking of an end of lines keeps, a turn keeps.
 use Rattle.std.proofs.Common.{◌≡◌, ℕ, Bool, true, false, List, [], ◌∷◌, sym, ap, subst, inl, inr, refl}
 use Rattle.std.specs.Prelude.{◌⊎◌, ◌==◌, if◌then◌else◌}
-use Rattle.link.specs.declared.faults.LinkFault.{LinkFault}
 use Rattle.tray.specs.Held.{Waiting}
 use Rattle.tray.specs.Draining.{Sends, DrainedAll}
 use Rattle.node_loop.specs.declared.item.Item.{Item}

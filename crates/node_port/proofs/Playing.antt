@@ -23,7 +23,7 @@ use Rattle.node_port.proofs.Growing.{changes_now, answers_now}
 -- a line that was done at a node is printed
 module _ (bytes : List ℕ) (taken : Taken) (s : Standing) (a b c : Port) (says : IsTaken bytes taken) (empty : IsEmpty a.output)
     (P : PlaysAt taken s (spent s ++ waiting s b.node) a b) where
-  printed : Printed
+  abbrev pub printed : Printed
   printed = printed_by s taken (stand_of a) P.deeds (stand_of b)
 
   -- so its text is that
@@ -89,14 +89,15 @@ plays_more [] a b c out s l p h L = (
   last_of s c,
 )
 plays_more (m ∷ ls) a b c out s l p h L =
-    (h.0, h.1 ++ p ∷ [], ap (λ (xs : List Printed). xs ++ p ∷ []) h.2, h.3, h.4, h.5, go h.3 h.6)
+    (h.0, h.1 ++ p ∷ [], ap (λ (xs : List Printed). xs ++ p ∷ []) h.2, h.3, h.4, h.5, go h.3 (λ more. plays_more ls h.4 b c h.1 s l p more L) h.6)
   where
-    go : (stands : Standing) → MoreOnly stands Runs ls h.1 h.4 b (PlaysAll ls Runs h.4 h.1 b)
+    go : (stands : Standing) → (PlaysAll ls Runs h.4 h.1 b → PlaysAll (ls ++ l ∷ []) s h.4 (h.1 ++ p ∷ []) c)
+        → MoreOnly stands Runs ls h.1 h.4 b (PlaysAll ls Runs h.4 h.1 b)
         → MoreOnly stands s (ls ++ l ∷ []) (h.1 ++ p ∷ []) h.4 c (PlaysAll (ls ++ l ∷ []) s h.4 (h.1 ++ p ∷ []) c)
-    go Runs more = plays_more ls h.4 b c h.1 s l p more L
-    go HasLeft more = absurd (cc (more.0))
-    go Broken more = absurd (cc (more.0))
-    go Spent more = absurd (cc (more.0))
+    go Runs on more = on more
+    go HasLeft on more = absurd (cc (more.0))
+    go Broken on more = absurd (cc (more.0))
+    go Spent on more = absurd (cc (more.0))
 
 pub text_more : (out : List Printed) (p : Printed) → flat_map printed_text (out ++ p ∷ []) ≡ flat_map printed_text out ++ printed_text p
 text_more out p =
@@ -142,18 +143,18 @@ module _ (a b : Stand) (input mid rest old w1 w2 : Option (List ℕ)) (P : Plays
   }
 
   -- there are too many
-  pub stops_here : Keeps mid rest → LosesLines mid rest [] → StopsOn a input rest old w2
-  stops_here k lost =
-      let Q = plays_end lost in record {
-        lines = Q.lines;
-        part = [];
-        read = LosesInto-whole input rest Q.lines Q.lost;
-        out = Q.out;
-        standing = Runs;
-        stand = b;
-        plays = Q.plays;
-        wrote = part_of_all;
-      }
+  pub stops_here : LosesLines mid rest [] → StopsOn a input rest old w2
+  stops_here lost = record {
+    lines = P.lines;
+    part = [];
+    read = LosesInto-whole input rest P.lines
+        (subst (λ (ls : List (List ℕ)). LosesLines input rest ls) (append-nil P.lines) (LosesLines-trans input mid rest P.lines [] P.lost lost));
+    out = P.out;
+    standing = Runs;
+    stand = b;
+    plays = P.plays;
+    wrote = part_of_all;
+  }
 
   module _ (line : List ℕ) (lost : LosesLines mid rest (line ∷ [])) where
     pub plays_line : (s : Standing) (c : Stand) (w3 : Option (List ℕ)) → PrintsLine line s b c w2 w3 → PlaysOn a input rest old w3 s c
