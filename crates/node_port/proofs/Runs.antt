@@ -226,18 +226,19 @@ pub lines_come : (ls : List (List ℕ)) (s : Standing) (a : Stand) (out : List P
 lines_come [] s a out c h =
     subst (λ (o : List Printed). Comes [] o a c) (sym h.1) (subst (λ (x : Stand). Comes [] [] a x) (sym h.2) (comes_none a))
 lines_come (l ∷ ls) s a out c h =
-    subst (λ (o : List Printed). Comes (l ∷ ls) o a c) (sym h.2) (comes_more l ls h.3 h.0 h.1 a h.4 c h.5 (go h.3 h.6))
+    subst (λ (o : List Printed). Comes (l ∷ ls) o a c) (sym h.2) (comes_more l ls h.3 h.0 h.1 a h.4 c h.5 (go h.3 (λ m. lines_come ls s h.4 h.1 c m) h.6))
   where
     at_end : (x : Standing) → (s ≡ x) × (ls ≡ []) × (h.1 ≡ []) × (c ≡ h.4) → Comes ls h.1 h.4 c
     at_end x m =
         subst (λ (y : List (List ℕ)). Comes y h.1 h.4 c) (sym m.1)
         (subst (λ (o : List Printed). Comes [] o h.4 c) (sym m.2) (subst (λ (y : Stand). Comes [] [] h.4 y) (sym m.3) (comes_none h.4)))
 
-    go : (x : Standing) → MoreOnly x s ls h.1 h.4 c (PlaysAll ls s h.4 h.1 c) → Comes ls h.1 h.4 c
-    go Runs m = lines_come ls s h.4 h.1 c m
-    go HasLeft m = at_end HasLeft m
-    go Broken m = at_end Broken m
-    go Spent m = at_end Spent m
+    go : (x : Standing) → (PlaysAll ls s h.4 h.1 c → Comes ls h.1 h.4 c) → MoreOnly x s ls h.1 h.4 c (PlaysAll ls s h.4 h.1 c)
+        → Comes ls h.1 h.4 c
+    go Runs on m = on m
+    go HasLeft on m = at_end HasLeft m
+    go Broken on m = at_end Broken m
+    go Spent on m = at_end Spent m
 
 -- a node as it opens is the loop of its name
 opens_core : (node : ℕ) (world : List ℕ) (founds : Bool) → (cluster : List ℕ) × (core_of node world founds ≡ opening_core world cluster node)

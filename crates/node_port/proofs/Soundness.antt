@@ -1,5 +1,5 @@
 -- A node stays sound over its end of lines, whatever it reads, does and prints.
-use Rattle.std.proofs.Common.{ℕ, Bool, true, false, zero, suc, ◌≡◌, ◌<◌, ◌==◌, inl, inr, Ok, Err, Option, Some, None, List, [], ◌∷◌, ◌++◌, map, set, length, refl, sym, ap, subst, ◌∙◌, arith, eq-eqb}
+use Rattle.std.proofs.Common.{ℕ, Bool, true, false, zero, suc, ◌≡◌, ◌<◌, ◌==◌, inl, inr, Ok, Err, Option, Some, None, List, [], ◌∷◌, ◌++◌, map, set, length, cond, refl, sym, ap, subst, ◌∙◌, arith, eq-eqb}
 use Rattle.std.specs.Prelude.{◌&&◌, ◌||◌, not, filter, if◌then◌else◌}
 use Rattle.std.specs.List.{list_all}
 use Rattle.std.specs.List.Sorted.{IsStrictlyIncreasing}
@@ -128,14 +128,12 @@ module _ (p : ℕ → Bool) where
   all_inside : (keep : ℕ → Bool) (ns : List ℕ) → ((n : ℕ) → set_of ns n ≡ true → p n ≡ true)
       → list_all (λ v. p v.node) (map new_wire (filter keep ns)) ≡ true
   all_inside keep [] each = refl
-  all_inside keep (n ∷ ns) each = go (keep n)
+  all_inside keep (n ∷ ns) each = go (keep n) (all_inside keep ns (λ m h. each m (or_right (n == m) (set_of ns m) h)))
     where
-      rest : list_all (λ v. p v.node) (map new_wire (filter keep ns)) ≡ true
-      rest = all_inside keep ns (λ m h. each m (or_right (n == m) (set_of ns m) h))
-
-      go : (b : Bool) → list_all (λ v. p v.node) (map new_wire (if b then n ∷ filter keep ns else filter keep ns)) ≡ true
-      go true = and_from (p n) _ (each n (or_left (n == n) (set_of ns n) (eq-eqb n n refl))) rest
-      go false = rest
+      go : (b : Bool) → list_all (λ v. p v.node) (map new_wire (filter keep ns)) ≡ true
+          → list_all (λ v. p v.node) (map new_wire (cond b (n ∷ filter keep ns) (filter keep ns))) ≡ true
+      go true rest = and_from (p n) _ (each n (or_left (n == n) (set_of ns n) (eq-eqb n n refl))) rest
+      go false rest = rest
 
 -- a line that gives something to the end leaves it sound
 module _ (o : Opening) where
@@ -231,13 +229,13 @@ module _ (o : Opening) where
   pub lines_sound : (ls : List (List ℕ)) (s : Standing) (a : Stand) (out : List Printed) (c : Stand) → PlaysAll ls s a out c → IsSoundAt o a
       → IsSoundIn s o c
   lines_sound [] s a out c h S = subst (λ (x : Standing). IsSoundIn x o c) (sym h.0) (subst (IsSoundAt o) (sym h.2) S)
-  lines_sound (l ∷ ls) s a out c h S = go h.3 (line_sound l h.3 a h.0 h.4 h.5 S) h.6
+  lines_sound (l ∷ ls) s a out c h S = go h.3 (λ m T. lines_sound ls s h.4 h.1 c m T) (line_sound l h.3 a h.0 h.4 h.5 S) h.6
     where
-      go : (x : Standing) → IsSoundIn x o h.4 → MoreOnly x s ls h.1 h.4 c (PlaysAll ls s h.4 h.1 c) → IsSoundIn s o c
-      go Runs S m = lines_sound ls s h.4 h.1 c m S
-      go HasLeft S m = subst (λ (x : Standing). IsSoundIn x o c) (sym m.0) (subst (IsSoundAt o) (sym m.3) S)
-      go Broken S m = subst (λ (x : Standing). IsSoundIn x o c) (sym m.0) (subst (IsSoundAt o) (sym m.3) S)
-      go Spent S m = subst (λ (x : Standing). IsSoundIn x o c) (sym m.0) (subst (EndsSoundAt o) (sym m.3) S)
+      go : (x : Standing) → (PlaysAll ls s h.4 h.1 c → IsSoundAt o h.4 → IsSoundIn s o c) → IsSoundIn x o h.4 → MoreOnly x s ls h.1 h.4 c (PlaysAll ls s h.4 h.1 c) → IsSoundIn s o c
+      go Runs on S m = on m S
+      go HasLeft on S m = subst (λ (x : Standing). IsSoundIn x o c) (sym m.0) (subst (IsSoundAt o) (sym m.3) S)
+      go Broken on S m = subst (λ (x : Standing). IsSoundIn x o c) (sym m.0) (subst (IsSoundAt o) (sym m.3) S)
+      go Spent on S m = subst (λ (x : Standing). IsSoundIn x o c) (sym m.0) (subst (EndsSoundAt o) (sym m.3) S)
 
 -- a node as it opens
 pub opens_sound : (o : Opening) (node : ℕ) (world : List ℕ) (founds : Bool) → IsStrictlyIncreasing world → IsNodeOf o (core_of node world founds)
