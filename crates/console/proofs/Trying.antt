@@ -1,15 +1,17 @@
 -- Tries for a lock, one after another.
-use Rattle.std.proofs.Common.{ℕ, zero, suc, true, ◌≡◌, Result, Err, refl, sym, subst, inr, arith}
+use Rattle.std.proofs.Common.{ℕ, zero, suc, true, false, ◌≡◌, Result, Err, refl, sym, subst, inl, inr, arith}
 use Rattle.command_lines.specs.declared.Call.{Call}
 use Rattle.command_lines.specs.declared.Reply.{Reply}
 use Rattle.node_seats.specs.declared.Retries.{Retries}
 use Rattle.node_seats.specs.declared.Retries.TheVariants.{Times, Endless}
 use Rattle.node_seats.specs.declared.fault.SeatFault.{SeatFault}
+use Rattle.node_seats.specs.declared.fault.SeatFault.TheVariants.{Memory}
 use Rattle.node_seats.specs.Callers.{IsEnd}
 use Rattle.node_seats.specs.Faults.{IsUnmade}
 use Rattle.node_seats.specs.Knowing.{Known}
-use Rattle.console.specs.Lent.{EndsTry, LentTries, StillTries, TriesInVain}
-use Rattle.console.specs.Tries.{AreLeft, IsFewer, retries_in}
+use Rattle.console.specs.Lent.{EndsTry, LentGives, LentTries, StillTries, Tries, TriesInVain}
+use Rattle.console.specs.Tries.{AreLeft, IsFewer, is_for_now, retries_in, try_for}
+use Rattle.console.specs.declared.orders.Order.TheVariants as order
 use Rattle.console.proofs.Repeating.{one_more}
 use Rattle.console.proofs.Unasked.{ended}
 
@@ -26,6 +28,28 @@ fewer_left (Times n) made Endless fewer are is = absurd are
 fewer_left Endless made (Times left) fewer are is = absurd are
 fewer_left (Times n) made (Times left) Endless are is = absurd is
 fewer_left Endless made Endless (Times fewer) are is = absurd is
+
+-- it was tried at a seat
+pub tried : (c one : Call) (k l : Known) (r : Result Reply SeatFault) → one ≡ try_for c → LentGives k (order.Call one) r l → Tries c k r l
+tried c one k l r is gives = subst (λ (d : Call). LentGives k (order.Call d) r l) is gives
+
+-- there was no memory for the call
+pub not_tried : (c : Call) (k : Known) → Tries c k (Err Memory) k
+not_tried c k = inr (refl, refl)
+
+-- a later try may get it
+pub in_vain : (c : Call) (k l : Known) (r : Result Reply SeatFault) → is_for_now r ≡ true → Tries c k r l → TriesInVain c k l
+in_vain c k l r is tries = (r, is, tries)
+
+-- no later one would
+pub try_ended : (c : Call) (left : Retries) (k l : Known) (r : Result Reply SeatFault) → is_for_now r ≡ false → Tries c k r l
+    → EndsTry c left k r l
+try_ended c left k l r is tries = inl (tries, inl is)
+
+-- there is no later one
+pub last_try : (c : Call) (left : Retries) (k l : Known) (r : Result Reply SeatFault) → left ≡ Times 0 → Tries c k r l
+    → EndsTry c left k r l
+last_try c left k l r none tries = inl (tries, inr none)
 
 -- nothing was tried yet
 pub tries_begin : (c : Call) (k : Known) (left : Retries) → left ≡ retries_in c → StillTries c k k left
@@ -52,3 +76,7 @@ tries_given_up c k l left f still end = tries_end c k l l left (Err f) still (in
 -- nothing was tried at all
 pub unasked : (c : Call) (k : Known) (f : SeatFault) → IsUnmade f true → LentTries c k (Err f) k
 unasked c k f is = tries_end c k k k (retries_in c) (Err f) (tries_begin c k (retries_in c) refl) (inr (is, refl))
+
+-- so it is where no reply comes any more
+pub none_tried : (c : Call) (k : Known) (f : SeatFault) → IsEnd f → LentTries c k (Err f) k
+none_tried c k f end = unasked c k f (ended f end)

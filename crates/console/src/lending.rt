@@ -24,6 +24,7 @@ pub(crate) struct Borrower<'a, C: Client + Drop, B> {
 
 impl<'a, C: Client + Drop, B> Borrower<'a, C, B> {
     /// A seat of the node that knows of it what the console knows. `Closed`: it is lent none.
+    #[tactic(auto, using(crate::proofs::Lending::lent_to))]
     pub(crate) fn lend<H>(&self, rt: &H) -> Result<Seat<B::Notes>, SeatFault>
     where
         B: House<H>,
@@ -63,6 +64,7 @@ impl<'a, C: Client + Drop, B> Borrower<'a, C, B> {
     }
 
     /// How the node stands.
+    #[tactic(auto, using(crate::proofs::Lending::told_of_it))]
     pub(crate) fn node_status<H>(&self, rt: &H) -> Result<NodeStatus, SeatFault>
     where
         B: House<H>,
@@ -76,7 +78,7 @@ impl<'a, C: Client + Drop, B> Borrower<'a, C, B> {
     }
 
     /// How the node stands, and by which step the console was granted a lock last.
-    #[tactic(auto, using(crate::proofs::Lending::fence_told))]
+    #[tactic(auto, using(crate::proofs::Lending::fence_told, crate::proofs::Lending::told_of_it))]
     pub(crate) fn told_at_seat<H>(
         &self,
         rt: &H,

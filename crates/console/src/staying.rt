@@ -58,6 +58,7 @@ fn look_for<T: Notes>(seat: &mut Seat<T>, awaited: &Awaited) -> Option<Result<Re
 
 impl<'a, C: Client + Drop, B> Borrower<'a, C, B> {
     /// Has a process exit, and tells the house that it is dead.
+    #[tactic(auto, using(crate::proofs::Lending::given_for))]
     fn exit<H: Wait + Clock>(&mut self, rt: &H, process: &Pid) -> Result<Reply, SeatFault>
     where
         B: House<H>,
@@ -86,7 +87,7 @@ impl<'a, C: Client + Drop, B> Borrower<'a, C, B> {
     }
 
     /// Looks a name up at a seat that is lent for it: what who waits is answered, unless it is to be looked up again.
-    #[tactic(auto, using(crate::proofs::Unasked::ended, crate::proofs::Lending::looked_past, crate::proofs::Lending::looking_ended))]
+    #[tactic(auto, using(crate::proofs::Lending::not_looked, crate::proofs::Lending::looked))]
     fn look_once<H>(&mut self, rt: &H, awaited: &Awaited) -> Option<Result<Reply, SeatFault>>
     where
         B: House<H>,
@@ -103,7 +104,7 @@ impl<'a, C: Client + Drop, B> Borrower<'a, C, B> {
     }
 
     /// Looks a name up again and again, until it finds what is waited for, or nobody waits any more.
-    #[tactic(auto, using(crate::proofs::Looking::waits_begin, crate::proofs::Looking::waits_on, crate::proofs::Looking::given_up))]
+    #[tactic(auto, using(crate::proofs::Looking::waits_begin, crate::proofs::Looking::waits_on, crate::proofs::Looking::wait_ended, crate::proofs::Looking::given_up))]
     fn wait<H: Wait + Clock>(
         &mut self,
         rt: &H,

@@ -47,12 +47,11 @@ fn try_for(call: &Call) -> Result<Call, AllocError>
     ensures { IfOk result (λ one. one ≡ try_for call.now) }
 {
     match call {
-        Call::SetLock(holder, id, nodes, _) => Ok(Call::SetLock(
-            holder.copy(),
-            id.copy(),
-            nodes.copy()?,
-            Retries::Times(0),
-        )),
+        Call::SetLock(holder, id, nodes, _) => {
+            let nodes = nodes.copy()?;
+            let once = Retries::Times(0);
+            Ok(Call::SetLock(holder.copy(), id.copy(), nodes, once))
+        }
         _ => unreachable!(),
     }
 }
@@ -127,7 +126,7 @@ impl<'a, C: Client + Drop, B> Borrower<'a, C, B> {
     }
 
     /// Asks for a lock: in its turn where it is retried without end, and else at once.
-    #[tactic(auto, using(crate::proofs::Trying::unasked, crate::proofs::Unasked::ended))]
+    #[tactic(auto, using(crate::proofs::Trying::none_tried))]
     fn set_lock<H: Wait + Clock>(
         &mut self,
         rt: &H,
@@ -251,6 +250,7 @@ impl<'a, C: Client + Drop, B> Borrower<'a, C, B> {
     }
 
     /// Tries for a lock, once: what is answered, unless it is to be tried again. A retry is left for that then, and counts.
+    #[tactic(auto, using(crate::proofs::Trying::try_ended, crate::proofs::Trying::last_try, crate::proofs::Trying::in_vain))]
     fn try_next<H: Wait + Clock>(
         &mut self,
         rt: &H,
@@ -278,6 +278,7 @@ impl<'a, C: Client + Drop, B> Borrower<'a, C, B> {
     }
 
     /// Tries for a lock, once.
+    #[tactic(auto, using(crate::proofs::Trying::tried, crate::proofs::Trying::not_tried))]
     fn try_once<H: Wait + Clock>(&mut self, rt: &H, call: &Call) -> Result<Reply, SeatFault>
     where
         B: House<H>,
@@ -316,7 +317,7 @@ impl<'a, C: Client + Drop, B> Borrower<'a, C, B> {
     }
 
     /// Gives a lock back, and tells the house so.
-    #[tactic(auto, using(crate::proofs::Unasked::ended))]
+    #[tactic(auto, using(crate::proofs::Lending::not_given))]
     fn delete_lock<H: Wait + Clock>(&mut self, rt: &H, call: Call) -> Result<Reply, SeatFault>
     where
         B: House<H>,
@@ -325,9 +326,7 @@ impl<'a, C: Client + Drop, B> Borrower<'a, C, B> {
         let members = self.node_status(rt)?.members;
         let request = request_of(&call, &members);
         let outcome = self.ask_at_seat(rt, Order::Call(call));
-        if outcome.is_ok()
-            && let Some(request) = &request
-        {
+        if let (Ok(_), Some(request)) = (&outcome, &request) {
             self.house.lines().give_back(rt, request);
         }
         outcome

@@ -80,7 +80,7 @@ pub(crate) enum Talk {
     Torn(usize),
     /// All, by a console whose writer has room for so many bytes of the answers.
     Full(usize),
-    /// One console, and then another at the same seat.
+    /// One console, and then another that is lent the same seat.
     InTurn,
     /// Lock calls that wait, whose clients go.
     Waits,
@@ -217,24 +217,25 @@ fn hold<H: Wait + Clock, C: Client + Drop>(
     }
 }
 
-/// Whether two consoles that have a seat, one after the other, are answered as they should be, and what both were told is kept.
+/// Whether two consoles that are lent a seat, one after the other, are answered as they should be, and what both were told is kept.
 fn holds_twice<H: Wait + Clock>(
     rt: &H,
     alloc: Global,
     seat: Seat,
     told: &mut Vec<Transcript>,
 ) -> bool {
-    let lines = b"spawn\nspawn_link\nquit\n".as_slice();
-    let text = b"a.1\na.2\nok\n".as_slice();
+    let lines = b"spawn\nset_lock a.1 r q all 0\nspawn_link\nquit\n".as_slice();
+    let text = b"a.1\ntrue\na.2\nok\n".as_slice();
     let (first, seat) = hold(rt, alloc, seat, Listener, lines, text, ConsoleEnd::Quit);
     let Some(seat) = seat else {
         return false;
     };
-    let lines = b"exit a.1\nexit a.2\nspawn\nshutdown\nspawn\n".as_slice();
-    let text = b"ok\nerror already_exited\na.3\nok\n".as_slice();
+    // It was granted no lock, though another was at this seat.
+    let lines = b"fence\nexit a.1\nexit a.2\nspawn\nshutdown\nspawn\n".as_slice();
+    let text = b"error no_grant\nok\nerror already_exited\na.3\nok\n".as_slice();
     let (second, seat) = hold(rt, alloc, seat, Listener, lines, text, ConsoleEnd::Shutdown);
     match seat {
-        Some(seat) => keeps(told, seat.into_transcript(), 5) && first && second,
+        Some(seat) => keeps(told, seat.into_transcript(), 6) && first && second,
         None => false,
     }
 }
