@@ -12,7 +12,8 @@ use Rattle.node_threads.specs.declared.ending.EndFault.{EndFault}
 use Rattle.node_threads.specs.declared.ending.EndFault.TheVariants as untold
 use Rattle.node_threads.specs.Wires.{IsCrew}
 use Rattle.node_threads.specs.Seating.{no_seats}
-use Rattle.node_threads.specs.Clusters.{Crewed, nodes_in, seats_more, seats_fewer}
+use Rattle.node_threads.specs.Clusters.{Crewed, nodes_in, seats_more}
+use Rattle.node_threads.specs.Seats.{Sitting}
 use Rattle.node_threads.specs.Ending.{EndIs}
 use Rattle.text_lines.specs.Writing.{AppendsPart}
 use Rattle.server.specs.declared.faults.StayFault.{StayFault}
@@ -34,16 +35,25 @@ end_line (Err fault) = error_line (end_text fault)
 abbrev pub Ending : Type 0
 Ending = Result (EndedCluster Table Global) EndFault
 
--- what a cluster is after seats were given out and taken back: for each in turn none, or the slot of the one that came back
-abbrev pub reseated : List (Option ℕ) → Crewed → Crewed
-reseated [] c = c
-reseated (None ∷ turns) c = reseated turns (seats_more c)
-reseated (Some slot ∷ turns) c = reseated turns (seats_fewer slot c)
+-- what a cluster is after it gave out so many seats
+abbrev pub seated : ℕ → Crewed → Crewed
+seated zero c = c
+seated (suc n) c = seats_more (seated n c)
 
--- seats of a cluster were given out and taken back, and nothing else of it changed
-pub record Reseats (c d : Crewed) : Type 0 where
-  pub turns : List (Option ℕ)
-  pub is : d ≡ reseated turns c
+-- seats of a cluster were given out, and nothing else of it changed
+pub record GivesOut (c d : Crewed) : Type 0 where
+  pub many : ℕ
+  pub is : d ≡ seated many c
+
+-- how many seats each of so many nodes has that a server lends: 64 are parted evenly
+abbrev pub share : ℕ → ℕ
+share zero = 0
+share (suc n) = 64 / suc n
+
+-- these are so many seats of this node
+pub record AreSeatsOf (node many : ℕ) (seats : List Sitting) : Type 0 where
+  pub at : All (λ s. s.node ≡ node) seats
+  pub counted : length seats ≡ many
 
 -- these are the nodes of the cluster: those that are joined with each other, and those that stand for themselves
 abbrev pub AreAll : List ℕ → Crewed → Type 0
@@ -60,11 +70,6 @@ Crew = List (PromisedHandle (List ℕ) Posted)
 -- each of them was started for just these nodes
 abbrev pub Serve : List ℕ → Crew → Type 0
 Serve nodes threads = All (λ t. t.promise.0.value ≡ nodes) threads
-
--- how many seats each of so many nodes has that a server lends
-abbrev pub share : ℕ → ℕ
-share zero = 0
-share (suc n) = 64 / suc n
 
 -- so many more were started, for just these
 pub record Starts (nodes : List ℕ) (many : ℕ) (old new : Crew) : Type 0 where
@@ -97,7 +102,7 @@ pub record EndsAfter (cluster lone : List ℕ) (ending : Ending) : Type 0 where
   pub crew : IsCrew cluster lone first.crew
   pub unused : first.seating ≡ no_seats
   pub last : Crewed
-  pub seats : Reseats first last
+  pub seats : GivesOut first last
   pub of : (last.cluster ≡ cluster) × (last.lone ≡ lone) × (last.crew ≡ first.crew)
   pub ends : Ends last ending
 

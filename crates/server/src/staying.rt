@@ -1,7 +1,7 @@
 //! Serving a cluster until a console asks for its end.
 ghost use Rattle.std.specs.Prelude.{◌≡◌, None, IfOk, string_bytes};
 ghost use Rattle.node_threads.specs.Openings.{start_refused};
-ghost use Rattle.server.specs.Staying.{AreAll, Reseats, Serve, StaysCluster, StaysRunning, TellsEnd};
+ghost use Rattle.server.specs.Staying.{AreAll, GivesOut, Serve, StaysCluster, StaysRunning, TellsEnd};
 
 mod descriptors;
 mod desk;
@@ -118,20 +118,21 @@ fn hire<R>(
 ) -> Result<Staff, SeatFault>
 where
     R: Threads + Wait + Clock + Files + Drop + Copy + Send + Sync + 'static,
-    ensures seats { Reseats cluster.old cluster.new }
+    ensures seats { GivesOut cluster.old cluster.new }
     ensures served { IfOk result (λ staff. Serve nodes.now staff.threads.items) }
 {
-    let seats = Seats::of(rt, alloc, cluster, nodes, workers_for(options.consoles))?;
+    let seats = Seats::of(alloc, cluster, nodes, workers_for(options.consoles))?;
     let staff = Staff::start(rt, alloc, entry, nodes.copy(), seats, options, resident(rt))?;
     Ok(staff)
 }
 
 /// Runs a cluster of threads and serves consoles until one of them asks for the end by the line `shutdown`: those of `cluster` are
-/// joined with each other, and each of `lone` stands for itself. As many consoles are attached at once as the options say, and others are told
-/// `error too_many_consoles`; with none at all nobody can ask for the end. A connection counts for none of them before its first line has let
-/// it in: sixteen more are served at once, each in a thread of its own. A console is lent a seat for each thing that it asks, behind a first line that
-/// shows the cookie, if there is one. The nodes keep none of their steps, whose stamps begin with the microseconds of the system's clock at the
-/// start. A connection that couldn't be taken ends nothing. What happens is told on `errors`, whose faults are passed over.
+/// joined with each other, and each of `lone` stands for itself. As many consoles are attached at once as the options say, and others are
+/// told `error too_many_consoles`; with none at all nobody can ask for the end. A connection counts for none of them before its first line
+/// has let it in: sixteen more are served at once, each in a thread of its own. Behind a first line that shows the cookie, if there is one,
+/// a console is lent one of the cluster's seats for each thing that it asks. The nodes keep none of their steps, whose stamps begin with the
+/// microseconds of the system's clock at the start. A connection that couldn't be taken ends nothing. What happens is told on `errors`,
+/// whose faults are passed over.
 ///
 /// Once all its threads are there it is told for how many consoles the descriptors serve, if they are too few, and the line `listening` is
 /// written. At the end connections are ended, calls that wait are answered `closed`,

@@ -1,7 +1,7 @@
 //! The seats that a server lends to its consoles.
-ghost use Rattle.std.specs.Prelude.{◌≡◌, ◌+◌, ◌<◌, ◌^◌, nat_lt, IfErr, IfOk};
+ghost use Rattle.std.specs.Prelude.{◌≡◌, ◌+◌, ◌<◌, ◌≤◌, ◌^◌, ◌++◌, ◌∷◌, [], None, length, nat_lt, option_to_list, IfErr, IfOk, OnOk};
 ghost use Rattle.console.specs.Callers.{IsEnd};
-ghost use Rattle.server.specs.Staying.{Reseats, share};
+ghost use Rattle.server.specs.Staying.{AreSeatsOf, GivesOut, share};
 
 use crate::staying::desk::StayingCluster;
 use node_threads::{ForgottenNotes, MOST_SEATS, Seat, SeatFault};
@@ -11,21 +11,21 @@ use std::thread::Parker;
 use std::time::Duration;
 use term::{Node, NodeName, NodeSet};
 
-/// How long who waits for a seat sleeps at most, in milliseconds. A bell ends a sleep. Two may sleep by one bell for a moment, of whom one is to
-/// have a seat already, and the other's ring may be lost then.
+/// How long who waits for a seat sleeps at most, in milliseconds. A bell ends a sleep. Two may sleep by one bell for a moment, of whom one is
+/// to have a seat already, and the other's ring may be lost then.
 const NET: u64 = 10;
 
 /// A seat that keeps no transcript.
 pub(crate) type ForgetfulSeat = Seat<ForgottenNotes>;
 
-/// The free seats of a node, and how far those have come who want one. Each gets a number, and they are served by their numbers. It lies under a
-/// lock.
+/// The free seats of a node, and how far those have come who want one. Who asks gets a number, and all are served by their numbers. It lies
+/// under a lock.
 #[derive(Drop)]
 struct Stock {
     free: Vec<ForgetfulSeat>,
     /// How many numbers were given.
     asked: u64,
-    /// So many may have a seat: as many as there are, and one more for each that came back.
+    /// So many may have a seat: as many as there were at first, and one more for each that came back.
     served: u64,
 }
 
@@ -34,7 +34,7 @@ struct Stock {
 struct Lending {
     node: Node,
     stock: Mutex<Stock>,
-    /// By which those sleep who wait: each by that which its number leaves as a rest.
+    /// By which those sleep who wait: each by the one whose place its number leaves as a rest.
     bells: Vec<Parker>,
 }
 
@@ -45,22 +45,26 @@ pub(crate) struct Seats {
 }
 
 impl Stock {
-    /// There is none yet. It takes no memory.
-    fn new(alloc: Global) -> Self
-        ensures { (result.asked ≡ 0) × (result.served ≡ 0) }
+    /// That of these seats, for which nobody has asked.
+    fn new(free: Vec<ForgetfulSeat>) -> Self
+        ensures free { result.free.items ≡ free.items }
+        ensures asked { result.asked ≡ 0 }
+        ensures served { result.served ≡ length free.items }
     {
+        let served = free.len() as u64;
         Stock {
-            free: Vec::new(alloc),
+            free,
             asked: 0,
-            served: 0,
+            served,
         }
     }
 
     /// The number of one more who wants a seat.
     fn draw(&mut self) -> u64
         ensures number { result ≡ self.old.asked }
-        ensures next { self.old.asked + 1 < 2 ^ 64 → self.new.asked ≡ self.old.asked + 1 }
+        ensures asked { self.old.asked + 1 < 2 ^ 64 → self.new.asked ≡ self.old.asked + 1 }
         ensures served { self.new.served ≡ self.old.served }
+        ensures free { self.new.free.items ≡ self.old.free.items }
     {
         let number = self.asked;
         self.asked = number.saturating_add(1);
@@ -74,8 +78,10 @@ impl Stock {
         number < self.served
     }
 
-    /// The seat of who has this number, once one is free, and those before have theirs.
+    /// The seat of who has this number, once one is free, and those before have theirs. It isn't free any more.
     fn take(&mut self, number: u64) -> Option<ForgetfulSeat>
+        ensures turn { self.old.served ≤ number → result ≡ None }
+        ensures free { self.old.free.items ≡ self.new.free.items ++ option_to_list result }
         ensures asked { self.new.asked ≡ self.old.asked }
         ensures served { self.new.served ≡ self.old.served }
     {
@@ -86,10 +92,13 @@ impl Stock {
         }
     }
 
-    /// A seat is free: the number of who may have one now. It is lost where there is no memory, and never is where it came from here.
+    /// A seat is free again: the number of who may have one now. It is lost where there is no memory, which there is for one that was taken
+    /// from here.
     fn put(&mut self, seat: ForgetfulSeat) -> Result<u64, AllocError>
         ensures number { IfOk result (λ number. number ≡ self.old.served) }
+        ensures free { OnOk result (self.new.free.items ≡ self.old.free.items ++ seat ∷ []) }
         ensures asked { self.new.asked ≡ self.old.asked }
+        ensures served { OnOk result (self.old.served + 1 < 2 ^ 64 → self.new.served ≡ self.old.served + 1) }
     {
         self.free.push(seat)?;
         let number = self.served;
@@ -108,13 +117,6 @@ fn bells_for(alloc: Global, many: u32) -> Result<Vec<Parker>, AllocError> {
 }
 
 impl Lending {
-    /// That of a node which has no seat yet, where so many may wait at once for one.
-    fn new(alloc: Global, node: Node, waiters: u32) -> Result<Self, AllocError> {
-        let bells = bells_for(alloc, waiters)?;
-        let stock = Mutex::new(Stock::new(alloc));
-        Ok(Lending { node, stock, bells })
-    }
-
     /// The bell of who has this number, if there are any.
     fn bell(&self, number: u64) -> Option<&Parker> {
         let place = number.checked_rem(self.bells.len() as u64)?;
@@ -135,8 +137,8 @@ impl Lending {
         unreachable!()
     }
 
-    /// Takes a seat, and wakes who may have it.
-    fn put<R: Wait>(&self, rt: &R, seat: ForgetfulSeat) {
+    /// Takes a seat back, and wakes who may have it.
+    fn take_back<R: Wait>(&self, rt: &R, seat: ForgetfulSeat) {
         let Ok(number) = self.stock.lock(rt).put(seat) else {
             return;
         };
@@ -156,55 +158,58 @@ fn share(nodes: usize) -> u32
     }
 }
 
-/// Puts so many seats of this node of a cluster there.
-fn fill<R: Wait>(
-    rt: &R,
-    lending: &Lending,
+/// So many seats of this node, which a cluster gives out.
+fn seats_of(
+    alloc: Global,
     cluster: &mut StayingCluster,
     node: &NodeName,
     many: u32,
-) -> Result<(), SeatFault>
-    ensures { Reseats cluster.old cluster.new }
+) -> Result<Vec<ForgetfulSeat>, SeatFault>
+    ensures given { GivesOut cluster.old cluster.new }
+    ensures seats { IfOk result (λ seats. AreSeatsOf node.now many seats.items) }
 {
+    let mut seats = Vec::new(alloc);
     for _ in 0..many {
-        let seat = cluster.forgetful_seat(node)?;
-        lending.put(rt, seat);
+        seats.reserve(1)?;
+        seats.push_reserved(cluster.forgetful_seat(node)?);
     }
-    Ok(())
+    Ok(seats)
 }
 
-/// The seats of a node of a cluster, so many, for which so many may wait at once.
-fn lending_of<R: Wait>(
-    rt: &R,
+/// The seats of a node, so many, which a cluster gives out, and for which so many may wait at once.
+fn lending_of(
     alloc: Global,
     cluster: &mut StayingCluster,
     node: &Node,
     many: u32,
     waiters: u32,
 ) -> Result<Lending, SeatFault>
-    ensures { Reseats cluster.old cluster.new }
+    ensures { GivesOut cluster.old cluster.new }
 {
-    let lending = Lending::new(alloc, node.copy(), waiters)?;
-    fill(rt, &lending, cluster, node.name(), many)?;
-    Ok(lending)
+    let bells = bells_for(alloc, waiters)?;
+    let seats = seats_of(alloc, cluster, node.name(), many)?;
+    Ok(Lending {
+        node: node.copy(),
+        stock: Mutex::new(Stock::new(seats)),
+        bells,
+    })
 }
 
 impl Seats {
-    /// All seats that a cluster of these nodes gives, as many for each node. So many may wait at once for one of a node.
-    pub(crate) fn of<R: Wait>(
-        rt: &R,
+    /// All seats that a cluster of these nodes gives out, as many for each node. So many may wait at once for one of a node.
+    pub(crate) fn of(
         alloc: Global,
         cluster: &mut StayingCluster,
         nodes: &NodeSet,
         waiters: u32,
     ) -> Result<Self, SeatFault>
-        ensures { Reseats cluster.old cluster.new }
+        ensures { GivesOut cluster.old cluster.new }
     {
         let many = share(nodes.len());
         let mut lendings = Vec::new(alloc);
         for node in nodes.as_slice() {
             lendings.reserve(1)?;
-            lendings.push_reserved(lending_of(rt, alloc, cluster, node, many, waiters)?);
+            lendings.push_reserved(lending_of(alloc, cluster, node, many, waiters)?);
         }
         Ok(Seats { nodes: lendings })
     }
@@ -214,9 +219,9 @@ impl Seats {
         self.nodes.iter().find(|lending| lending.node == *node)
     }
 
-    /// Lends a seat of this node, once one is free: who asks first has one first. Of what lies under a lock no more is known than its type says, so
-    /// it is looked at whether the seat is of that node: one of another, which never lies there, stays where it was. `Closed`: there
-    /// are none of this node.
+    /// Lends a seat of this node, once one is free: who asks first has one first. Of what lies under a lock no more is known than its type
+    /// says, so it is looked at whether the seat is of that node; one of another, which never lies there, goes back. `Closed`: there are none
+    /// of this node.
     pub(crate) fn lend<R: Wait>(&self, rt: &R, node: &Node) -> Result<ForgetfulSeat, SeatFault>
         ensures node { IfOk result (λ seat. seat.node ≡ node.now) }
         ensures none { IfErr result IsEnd }
@@ -228,14 +233,14 @@ impl Seats {
         if *seat.node() == *node {
             return Ok(seat);
         }
-        lending.put(rt, seat);
+        lending.take_back(rt, seat);
         Err(SeatFault::Closed)
     }
 
-    /// Takes a seat back.
+    /// Takes back a seat that it has lent.
     pub(crate) fn take_back<R: Wait>(&self, rt: &R, seat: ForgetfulSeat) {
         if let Some(lending) = self.at(seat.node()) {
-            lending.put(rt, seat);
+            lending.take_back(rt, seat);
         }
     }
 }

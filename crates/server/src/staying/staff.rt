@@ -150,8 +150,8 @@ pub(crate) fn workers_for(consoles: u32) -> u32
 }
 
 impl Staff {
-    /// Starts the workers for so many consoles, each of which serves these nodes by these seats, and the door of this entry. So much memory the process has
-    /// then. Where a thread can't be had, those that were started have ended.
+    /// Starts the workers for so many consoles, each of which serves these nodes by these seats, and the door of this entry. So much memory
+    /// the process has then. Where a thread can't be had, those that were started have ended.
     pub(crate) fn start<R>(
         rt: &R,
         alloc: Global,

@@ -1,4 +1,4 @@
-use Rattle.server.proofs.Reseating.{all_kept, all_nodes, stays}
+use Rattle.server.proofs.GivingOut.{all_kept, all_nodes, stays}
 use Rattle.server.proofs.staying.run_stay.Goals as goal
 
 pub serve-requires-clause-all : goal.serve-requires-clause-all

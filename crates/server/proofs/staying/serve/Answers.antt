@@ -1,6 +1,6 @@
 use Rattle.std.proofs.Common.{ℕ, List, subst}
 use Rattle.std.specs.Io.KnownBytes.{Appends}
-use Rattle.server.proofs.Reseating.{tells_behind}
+use Rattle.server.proofs.GivingOut.{tells_behind}
 use Rattle.server.proofs.staying.serve.Goals as goal
 
 pub returns-in-Ok : goal.returns-in-Ok

@@ -1,5 +1,5 @@
--- Seats that are given out and taken back, until their cluster is ended.
-use Rattle.std.proofs.Common.{ℕ, Bool, ◌≡◌, ◌≤◌, ◌+◌, List, [], ◌∷◌, ◌++◌, length, length-append, Option, Some, None, Result, Ok, Err, refl, sym, ap, subst, inl, inr, ◌∙◌, arith}
+-- Seats that are given out by a cluster, until it is ended.
+use Rattle.std.proofs.Common.{ℕ, zero, suc, Bool, ◌≡◌, ◌≤◌, ◌+◌, List, ◌++◌, length, length-append, Option, Some, None, Result, Ok, Err, refl, sym, ap, subst, inl, inr, ◌∙◌, arith}
 use Rattle.std.specs.Prelude.{◌||◌, OnOk, OnErr}
 use Rattle.std.specs.Io.KnownBytes.{Appends}
 use Rattle.std.proofs.KnownBytes.{Appends-kept, Appends-trans}
@@ -10,42 +10,40 @@ use Rattle.node_threads.specs.Openings.{start_refused}
 use Rattle.node_threads.proofs.Opening.{few}
 use Rattle.node_threads.specs.Wires.{IsCrew}
 use Rattle.node_threads.specs.Seating.{no_seats}
-use Rattle.node_threads.specs.Clusters.{Crewed, seats_more, seats_fewer}
+use Rattle.node_threads.specs.Clusters.{Crewed, seats_more}
 use Rattle.server.specs.declared.faults.StayFault.{StayFault}
 use Rattle.server.specs.declared.faults.StayFault.TheVariants.{Start, Write, Memory}
-use Rattle.server.specs.Staying.{AreAll, reseated, Reseats, Ending, Ends, EndsAfter, StaysCluster, StaysRunning, TellsEnd, end_line}
+use Rattle.server.specs.Staying.{AreAll, seated, GivesOut, Ending, Ends, EndsAfter, StaysCluster, StaysRunning, TellsEnd, end_line}
 
-reseated-append : (ts us : List (Option ℕ)) (c : Crewed) → reseated (ts ++ us) c ≡ reseated us (reseated ts c)
-reseated-append [] us c = refl
-reseated-append (None ∷ ts) us c = reseated-append ts us (seats_more c)
-reseated-append (Some slot ∷ ts) us c = reseated-append ts us (seats_fewer slot c)
+seated-both : (more some : ℕ) (c : Crewed) → seated (more + some) c ≡ seated more (seated some c)
+seated-both zero some c = refl
+seated-both (suc more) some c = ap seats_more (seated-both more some c)
 
--- seats come and go, and then others
-pub reseats_both : (c m d : Crewed) → Reseats c m → Reseats m d → Reseats c d
-reseats_both c m d a b = record {
-  turns = a.turns ++ b.turns;
-  is = b.is ∙ ap (λ (x : Crewed). reseated b.turns x) a.is ∙ sym (reseated-append a.turns b.turns c);
+-- none was given out
+pub gives_none : (c : Crewed) → GivesOut c c
+gives_none c = record { many = zero; is = refl }
+
+-- some were, and then others
+pub gives_both : (c m d : Crewed) → GivesOut c m → GivesOut m d → GivesOut c d
+gives_both c m d a b = record {
+  many = b.many + a.many;
+  is = b.is ∙ ap (λ (x : Crewed). seated b.many x) a.is ∙ sym (seated-both b.many a.many c);
 }
 
--- none
-pub reseats_none : (c : Crewed) → Reseats c c
-reseats_none c = record { turns = []; is = refl }
-
--- a seat was asked for, and given or refused
-pub reseats_asked : {A B : Type 0} (c d : Crewed) (r : Result A B) → OnOk r (d ≡ seats_more c) → OnErr r (d ≡ c) → Reseats c d
-reseats_asked c d (Ok seat) made unmade = record { turns = None ∷ []; is = made }
-reseats_asked c d (Err fault) made unmade = record { turns = []; is = unmade }
+-- one was asked for, and given or refused
+pub gives_asked : {A B : Type 0} (c d : Crewed) (r : Result A B) → OnOk r (d ≡ seats_more c) → OnErr r (d ≡ c) → GivesOut c d
+gives_asked c d (Ok seat) made unmade = record { many = suc zero; is = made }
+gives_asked c d (Err fault) made unmade = record { many = zero; is = unmade }
 
 -- all else of the cluster stays
-reseated_keeps : (ts : List (Option ℕ)) (c : Crewed)
-    → ((reseated ts c).cluster ≡ c.cluster) × ((reseated ts c).lone ≡ c.lone) × ((reseated ts c).crew ≡ c.crew)
-reseated_keeps [] c = (refl, refl, refl)
-reseated_keeps (None ∷ ts) c = reseated_keeps ts (seats_more c)
-reseated_keeps (Some slot ∷ ts) c = reseated_keeps ts (seats_fewer slot c)
+seated_keeps : (many : ℕ) (c : Crewed)
+    → ((seated many c).cluster ≡ c.cluster) × ((seated many c).lone ≡ c.lone) × ((seated many c).crew ≡ c.crew)
+seated_keeps zero c = (refl, refl, refl)
+seated_keeps (suc many) c = seated_keeps many c
 
-reseats_keep : (c d : Crewed) → Reseats c d → (d.cluster ≡ c.cluster) × (d.lone ≡ c.lone) × (d.crew ≡ c.crew)
-reseats_keep c d r = subst (λ (x : Crewed). (x.cluster ≡ c.cluster) × (x.lone ≡ c.lone) × (x.crew ≡ c.crew)) (sym r.is)
-    (reseated_keeps r.turns c)
+gives_keep : (c d : Crewed) → GivesOut c d → (d.cluster ≡ c.cluster) × (d.lone ≡ c.lone) × (d.crew ≡ c.crew)
+gives_keep c d r = subst (λ (x : Crewed). (x.cluster ≡ c.cluster) × (x.lone ≡ c.lone) × (x.crew ≡ c.crew)) (sym r.is)
+    (seated_keeps r.many c)
 
 -- the set of the nodes of both lists has those of a cluster that began with them
 pub all_nodes : (cluster lone nodes : List ℕ) (c : Crewed) → start_refused cluster lone ≡ None → c.cluster ≡ cluster → c.lone ≡ lone
@@ -55,8 +53,8 @@ all_nodes cluster lone nodes c fine joined others all n =
     ∙ (λ j. set_of (sym joined j ++ sym others j) n)
 
 -- the same where seats were given out
-pub all_kept : (nodes : List ℕ) (c d : Crewed) → Reseats c d → AreAll nodes c → AreAll nodes d
-all_kept nodes c d r all n = all n ∙ sym (λ j. set_of ((reseats_keep c d r).0 j ++ (reseats_keep c d r).1 j) n)
+pub all_kept : (nodes : List ℕ) (c d : Crewed) → GivesOut c d → AreAll nodes c → AreAll nodes d
+all_kept nodes c d r all n = all n ∙ sym (λ j. set_of ((gives_keep c d r).0 j ++ (gives_keep c d r).1 j) n)
 
 -- behind the first line the last one tells what the cluster came to
 pub tells_behind : (c : Crewed) (line : List ℕ) (old mid new : Option (List ℕ)) → Appends old mid line → (r : Result Bool StayFault)
@@ -67,7 +65,7 @@ tells_behind c line old mid new h (Err Memory) t = Appends-kept old mid new line
 tells_behind c line old mid new h (Err Start) t = absurd t
 
 module _ (cluster lone : List ℕ) (first : Crewed) (joined : first.cluster ≡ cluster) (others : first.lone ≡ lone) (crew : IsCrew cluster lone first.crew) (unused : first.seating ≡ no_seats) where
-  ends_after : (last : Crewed) → Reseats first last → (ending : Ending) → Ends last ending → EndsAfter cluster lone ending
+  ends_after : (last : Crewed) → GivesOut first last → (ending : Ending) → Ends last ending → EndsAfter cluster lone ending
   ends_after last seats ending ends = record {
     first = first;
     crew = crew;
@@ -79,9 +77,9 @@ module _ (cluster lone : List ℕ) (first : Crewed) (joined : first.cluster ≡ 
   }
     where
       kept : (last.cluster ≡ first.cluster) × (last.lone ≡ first.lone) × (last.crew ≡ first.crew)
-      kept = reseats_keep first last seats
+      kept = gives_keep first last seats
 
-  pub stays : (last : Crewed) → Reseats first last → (line : List ℕ) (old new : Option (List ℕ)) (r : Result Bool StayFault)
+  pub stays : (last : Crewed) → GivesOut first last → (line : List ℕ) (old new : Option (List ℕ)) (r : Result Bool StayFault)
       → StaysRunning last line old new r → StaysCluster cluster lone line old new r
   stays last seats line old new (Ok good) t = (t.0, ends_after last seats t.0 t.1, t.2, t.3)
   stays last seats line old new (Err Write) t = elim t [
