@@ -10,6 +10,9 @@ use Rattle.node_loop.specs.Coming.{IsLoopOf}
 use Rattle.node_loop.specs.Sound.{IsNodeOf, opened, IsSound, Tells}
 use Rattle.node_seats.specs.declared.parcel.Parcel.{Parcel}
 use Rattle.node_seats.specs.Lines.{Sent}
+use Rattle.node_seats.specs.Pages.{Book}
+use Rattle.node_seats.specs.Books.{Known}
+use Rattle.node_seats.specs.Moments.{EndsAt}
 use Rattle.node_seats.specs.declared.host.Stop.{Stop}
 use Rattle.node_seats.specs.declared.host.Stop.TheVariants.{Asked, Failed}
 use Rattle.node_seats.specs.Stops.{ends_alone}
@@ -38,6 +41,12 @@ pub record IsLeftBy (name : ℕ) (e : End) : Type 0 where
   pub stop : Stop
   pub stopped : StopsSo stop first loop
   pub alone : e.ended_alone ≡ ends_alone stop loop.left
+
+-- these are the moments of this book, up to the loop of this node that left this end behind
+pub record IsPastOf (name : ℕ) (book : Book) (e : End) (past : Known) : Type 0 where
+  pub book_is : past.book ≡ book
+  pub left : IsLeftBy name e
+  pub ends : EndsAt past.log left.loop
 
 -- of these ends one is this node's, the last turn of whose thread failed where the node hadn't left
 pub record FailsAlone (ends : List End) (a : ℕ) : Type 0 where

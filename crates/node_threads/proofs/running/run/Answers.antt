@@ -4,8 +4,8 @@ use Rattle.node_threads.specs.Traffics.{begun}
 use Rattle.node_threads.proofs.Soundness.{gives_back}
 use Rattle.node_threads.proofs.running.run.Goals as goal
 
-pub returns : goal.returns
-returns g c = gives_back c.args.work.node c.args.work.lines.items c.args.work.mailbox c.new-end.result c.turns-publisher.new.node
+pub returns-clause-end : goal.returns-clause-end
+returns-clause-end g c = gives_back c.args.work.node c.args.work.lines.items c.args.work.mailbox c.new-end.result c.turns-publisher.new.node
     c.turns-publisher.new.end (end_by g.N.Names.contents g.L.Record.logged c.end-end.result) c.into_parts-lines.result.0.items c.into_parts-lines.result.1
     (c.new-end.ensures
     ∙ ap (λ (n : ℕ). begun n c.args.work.lines.items c.args.work.mailbox) (c.copy.ensures ∙ c.node.ensures))

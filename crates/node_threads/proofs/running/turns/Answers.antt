@@ -1,5 +1,6 @@
 use Rattle.std.proofs.Common.{ℕ, suc, not, refl, ap, subst, ◌∙◌}
 use Rattle.node_loop.specs.Coming.{IsLoopOf}
+use Rattle.node_seats.proofs.Going.{goes_on}
 use Rattle.node_threads.proofs.Soundness.{ends_on, ends_behind, sound_on, sound_to_end}
 use Rattle.node_threads.proofs.running.turns.Goals as goal
 
@@ -8,6 +9,10 @@ returns-then-is_closing-clause-sound g c = ends_on c.args.node.now c.args.end.no
 
 pub loop-init : goal.loop-init
 loop-init g c = (tt, tt, refl, c.requires.came, λ o here. here, refl, c.requires.publishes, (0, refl))
+
+pub show-next-requires-clause-publishes : goal.show-next-requires-clause-publishes
+show-next-requires-clause-publishes g c = goes_on c.loop.publisher.publisher c.loop.node c.turn-outcome.new.node c.loop.invariant.6
+    c.turn-outcome.ensures.comes (c.turn-outcome.ensures.owing _ c.loop.invariant.6.1)
 
 pub loop-preserved : goal.loop-preserved
 loop-preserved g c = (

@@ -7,27 +7,40 @@ use Rattle.node_loop.specs.Sound.{BeginsSound}
 use Rattle.node_seats.specs.Addresses.{Reached}
 use Rattle.node_threads.specs.Wires.{unused}
 use Rattle.node_threads.proofs.Coming.{comes_first}
-use Rattle.node_threads.proofs.Starting.{publishes_first}
+use Rattle.node_threads.proofs.Starting.{opens_so, publishes_first}
 use Rattle.node_threads.proofs.berth.Berth.open.Goals as goal
+
+pub publish-requires-clause-came : goal.publish-requires-clause-came
+publish-requires-clause-came g c =
+    let at : c.in_ok-own.own.log.node ≡ c.args.node.now = ap (λ (l : Looping). l.log.node) c.in_ok-own.ensures.new ∙ c.core.ensures.name in
+    subst (λ (n : ℕ). IsLoopOf n c.in_ok-own.own) (sym at)
+    (comes_first c.args.opening.now.nodes c.args.opening.now.cluster c.args.node.now c.args.shared.now.stamp c.core.result c.in_ok-own.own
+    c.in_ok-own.ensures.new c.core.ensures.opens)
+
+pub publish-requires-clause-opens : goal.publish-requires-clause-opens
+publish-requires-clause-opens g c =
+    opens_so c.args.opening.now.nodes c.args.opening.now.cluster c.in_ok-own.own c.args.node.now c.args.shared.now.stamp c.core.result
+    c.in_ok-own.ensures.new c.core.ensures.opens
 
 pub invariant_of-result : goal.invariant_of-result
 invariant_of-result g c =
-    let at : c.in_ok-node.node.log.node ≡ c.args.node.now =
-    ap (λ (l : Looping). l.log.node) c.in_ok-node.ensures.new ∙ c.core.ensures.name in
+    let at : c.in_ok-own.own.log.node ≡ c.args.node.now =
+    ap (λ (l : Looping). l.log.node) c.in_ok-own.ensures.new ∙ c.core.ensures.name in
     let named =
     ap (λ (a : Reached Item). a.node) c.in_ok-address.ensures.address ∙ c.copy.ensures in (
       record {
         node = at ∙ sym named;
         room = sym (ap (λ (a : Reached Item). a.room) c.in_ok-address.ensures.address);
-        came = subst (λ (n : ℕ). IsLoopOf n c.in_ok-node.node) (sym at)
-            (comes_first c.args.opening.now.nodes c.args.opening.now.cluster c.args.node.now c.args.shared.now.stamp c.core.result c.in_ok-node.node
-            c.in_ok-node.ensures.new c.core.ensures.opens);
-        sound = subst (λ (h : Held). BeginsSound h c.in_ok-node.node) (sym (ap (λ (l : Looping). l.core) c.in_ok-node.ensures.new))
-            c.in_ok-node.ensures.sound;
+        came = subst (λ (n : ℕ). IsLoopOf n c.in_ok-own.own) (sym at)
+            (comes_first c.args.opening.now.nodes c.args.opening.now.cluster c.args.node.now c.args.shared.now.stamp c.core.result c.in_ok-own.own
+            c.in_ok-own.ensures.new c.core.ensures.opens);
+        sound = subst (λ (h : Held). BeginsSound h c.in_ok-own.own) (sym (ap (λ (l : Looping). l.core) c.in_ok-own.ensures.new))
+            c.in_ok-own.ensures.sound;
         empty = c.in_ok-address.ensures.empty;
         fresh = ap (map unused) c.new-2.ensures.items ∙ sym c.new-2.ensures.items;
       },
       c.in_ok-address.ensures.inbox,
-      publishes_first c.args.opening.now.nodes c.args.opening.now.cluster c.in_ok-node.node c.in_ok-publisher.publisher.publisher c.args.node.now
-          c.args.shared.now.stamp c.core.result c.in_ok-node.ensures.new c.core.ensures.opens c.core.ensures.name c.in_ok-publisher.ensures,
+      publishes_first c.in_ok-own.own c.in_ok-publisher.publisher.publisher c.args.shared.now.stamp c.core.result c.in_ok-own.ensures.new
+          c.in_ok-publisher.ensures.log,
+      sym (ap (λ (a : Reached Item). a.book) c.in_ok-address.ensures.address ∙ ap (λ k. k.book) c.in_ok-publisher.ensures.readers),
     )
