@@ -3,10 +3,10 @@ use Rattle.std.proofs.Common.{◌≡◌, ◌+◌, ◌<◌, ℕ, true, false, Lis
 use Rattle.std.specs.Prelude.{Result, MatchResult, OnOk, is_ok, is_some}
 use Rattle.std.specs.List.{fold}
 use Rattle.left_right.specs.Register.{TurnsAt}
-use Rattle.node_loop.specs.declared.edit.Edition.{Edition}
-use Rattle.node_loop.specs.Editions.{opening, updated}
-use Rattle.node_loop.specs.Held.{Looping}
-use Rattle.node_loop.specs.Owing.{shown_by}
+use Rattle.node_books.specs.declared.Edition.{Edition}
+use Rattle.node_books.specs.Editions.{opening, updated}
+use Rattle.node_books.specs.Held.{Looping}
+use Rattle.node_books.specs.Owing.{shown_by}
 use Rattle.node_books.specs.declared.moment.Moment.{Moment}
 use Rattle.node_books.specs.Books.{Known}
 use Rattle.node_books.specs.Moments.{moment, shown_at}

@@ -1,10 +1,10 @@
 -- What a reader then knows.
 use Rattle.std.proofs.Common.{◌≡◌, ◌≤◌, ◌<◌, ℕ, List, [], ◌∷◌, ◌++◌, length, sym, ap, subst, arith, refl, ◌∙◌}
 use mathlib.Core.List.{IsPrefix}
-use Rattle.node_loop.specs.Held.{Looping}
-use Rattle.node_loop.specs.Coming.{IsLoopOf}
-use Rattle.node_loop.specs.Owing.{shown_by}
-use Rattle.node_loop.specs.declared.edit.Edition.{Edition}
+use Rattle.node_books.specs.Held.{Looping}
+use Rattle.node_books.specs.Coming.{IsLoopOf}
+use Rattle.node_books.specs.Owing.{shown_by}
+use Rattle.node_books.specs.declared.Edition.{Edition}
 use Rattle.node_books.specs.declared.moment.Moment.{Moment}
 use Rattle.node_books.specs.Moments.{AreMoments, shown_at, Rises, last_from}
 use Rattle.node_books.proofs.Beginnings.{prefix_self}

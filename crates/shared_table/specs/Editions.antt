@@ -1,7 +1,7 @@
 -- Editions of a node's table, with the moments of the node.
 use Rattle.std.specs.Prelude.{◌≡◌, ◌<◌, length}
-use Rattle.node_loop.specs.declared.edit.Edition.{Edition}
-use Rattle.node_loop.specs.Editions.{updated}
+use Rattle.node_books.specs.declared.Edition.{Edition}
+use Rattle.node_books.specs.Editions.{updated}
 use Rattle.node_books.specs.Moments.{shown_at}
 use Rattle.shared_table.specs.declared.shown.Shown.{Shown}
 use Rattle.shared_table.specs.declared.shown.Front.{Front}

@@ -1,9 +1,9 @@
 -- What was published, and what waits.
 use Rattle.std.specs.Prelude.{◌≡◌, ◌++◌, ℕ, List, [], ◌∷◌, fold, Option, Some, None}
 use Rattle.logbook.specs.Pages.{Book}
-use Rattle.node_loop.specs.declared.edit.Edition.{Edition}
-use Rattle.node_loop.specs.Held.{Looping}
-use Rattle.node_loop.specs.Owing.{Owes}
+use Rattle.node_books.specs.declared.Edition.{Edition}
+use Rattle.node_books.specs.Held.{Looping}
+use Rattle.node_books.specs.Owing.{Owes}
 use Rattle.node_books.specs.declared.moment.Moment.{Moment}
 use Rattle.node_books.specs.Books.{Known}
 use Rattle.node_books.specs.Moments.{Follows, shown_at}

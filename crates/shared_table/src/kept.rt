@@ -1,14 +1,13 @@
 //! A publisher that a thread may own.
 ghost use Rattle.std.specs.Prelude.{◌≡◌, ◌∷◌, ◌++◌, [], true, IfOk};
-ghost use Rattle.node_loop.specs.Owing.{shown_by};
-ghost use Rattle.node_loop.specs.Coming.{HandsOver};
+ghost use Rattle.node_books.specs.Owing.{shown_by};
+ghost use Rattle.node_books.specs.Coming.{HandsOver};
 ghost use Rattle.node_books.specs.Moments.{moment};
 ghost use Rattle.shared_table.specs.Publishing.{Publishes};
 
 use crate::publisher::{LastTable, Publisher};
 use name_table::Names;
-use node_books::{Past, Scribe, ScribeFault};
-use node_loop::{NodeLoop, Record};
+use node_books::{NodeLoop, Past, Record, Scribe, ScribeFault};
 use std::alloc::Global;
 use std::sync::Wait;
 

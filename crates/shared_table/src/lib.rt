@@ -15,11 +15,10 @@ mod shown;
 pub use chute::{Chute, Stamped};
 pub use idle::{Idle, IdleReaders};
 pub use kept::KeptPublisher;
-pub use node_books::{Moment, Past, ScribeFault, Token};
-pub use node_loop::{
-    Answer, Call, Edit, Edition, Effect, Event, Item, NameList, NodeEnd, NodeLoop, Nodes, Notice,
-    NoticeList, Numbers, Record, Reply, Retries, SeatEntry, StepFault, Task, TaskFault, TaskReply,
-    Ticket, Transcript, Update, WorldEvent,
+pub use node_books::{
+    Answer, Call, Edit, Edition, Effect, Event, Item, Moment, NameList, NodeEnd, NodeLoop, Nodes,
+    Notice, NoticeList, Numbers, Past, Record, Reply, Retries, ScribeFault, SeatEntry, StepFault,
+    Task, TaskFault, TaskReply, Ticket, Token, Transcript, Update, WorldEvent,
 };
 pub use publisher::{LastTable, Publisher};
 pub use reader::{Lookup, TableReader};

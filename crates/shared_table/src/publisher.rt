@@ -1,9 +1,9 @@
 //! Who publishes a node's table.
 ghost use Rattle.std.specs.Prelude.{◌≡◌, ◌<◌, ◌^◌, [], ◌∷◌, ◌++◌, true, false, drop, IfOk, OnOk, OnErr, length as list_length};
 ghost use Rattle.logbook.specs.Pages.{Book};
-ghost use Rattle.node_loop.specs.Editions.{opening};
-ghost use Rattle.node_loop.specs.Owing.{shown_by};
-ghost use Rattle.node_loop.specs.Coming.{IsLoopOf, HandsOver};
+ghost use Rattle.node_books.specs.Editions.{opening};
+ghost use Rattle.node_books.specs.Owing.{shown_by};
+ghost use Rattle.node_books.specs.Coming.{IsLoopOf, HandsOver};
 ghost use Rattle.node_books.specs.Moments.{moment, shown_at};
 ghost use Rattle.shared_table.specs.Publishing.{Progress, IsAllShown, IsSound, held_back, Publishes as Follows};
 ghost use Rattle.shared_table.specs.Rule.{mark_at};
@@ -14,8 +14,7 @@ use crate::rule::{Mark, Notes, OneBook, Publishes};
 use crate::shown::{Shown, Stamp};
 use left_right::writer::Writer;
 use name_table::Names;
-use node_books::{Past, Scribe, ScribeFault, Token};
-use node_loop::{NodeLoop, Record};
+use node_books::{NodeLoop, Past, Record, Scribe, ScribeFault, Token};
 use std::alloc::{AllocError, Global};
 use std::marker::Model;
 use std::sync::Wait;

@@ -1,13 +1,12 @@
 //! What readers are shown.
 ghost use Rattle.std.specs.Prelude.{◌≡◌, [], IfOk, MatchResult};
 ghost use Rattle.registry_model.specs.Table.{put_all};
-ghost use Rattle.node_loop.specs.Editions.{opening};
+ghost use Rattle.node_books.specs.Editions.{opening};
 ghost use Rattle.shared_table.specs.Editions.{edition_of, front_of, stamped};
 
 use left_right::Absorb;
 use name_table::{Change, IndexTable, Names, Pair};
-use node_books::Token;
-use node_loop::{Edit, Edition, Update};
+use node_books::{Edit, Edition, Token, Update};
 use std::alloc::{AllocError, Global};
 use term::Node;
 

@@ -3,7 +3,8 @@ use Rattle.node_loop.specs.Held.{Looping}
 use Rattle.node_loop.specs.Coming.{IsLoopOf}
 use Rattle.node_seats.specs.Publishing.{Publishes}
 use Rattle.node_seats.proofs.Onward.{loop_on}
-use Rattle.node_seats.proofs.Going.{own_on, aside, by_handing_over}
+use Rattle.node_seats.proofs.Taking.{own_on, by_handing_over}
+use Rattle.node_seats.proofs.Going.{aside}
 use Rattle.node_threads.proofs.running.show.Goals.{then-shown, else-shown}
 use Rattle.node_threads.proofs.running.show.Goals as goal
 

@@ -1,9 +1,9 @@
 use Rattle.std.proofs.Common.{◌≡◌, ◌∙◌, true, not, ap, sym, subst}
 use Rattle.std.specs.Prelude.{is_ok}
-use Rattle.node_loop.specs.Owing.{shown_by}
+use Rattle.node_books.specs.Owing.{shown_by}
 use Rattle.node_books.specs.Books.{Known}
 use Rattle.node_books.specs.Moments.{Follows, shown_at}
-use Rattle.node_loop.specs.Owing.{Owes}
+use Rattle.node_books.specs.Owing.{Owes}
 use Rattle.shared_table.proofs.Publishing.{when_ok}
 use Rattle.shared_table.proofs.kept.KeptPublisher.show.Goals as goal
 
