@@ -18,7 +18,9 @@ use crate::line::Line;
 use crate::place::Place;
 use crate::standing::Standing;
 use crate::told::NodeStatus;
-use shared_table::{Call, Effect, Event, Item, Lookup, TableReader, Task, TaskFault, Ticket};
+use shared_table::{
+    Call, Effect, Event, Item, Lookup, TableReader, Task, TaskFault, Ticket, Token,
+};
 use std::alloc::{AllocError, Global};
 use std::sync::{Arc, Wait};
 use std::time::Clock;
@@ -155,6 +157,14 @@ impl Caller {
         ensures { result ≡ place_of self.now }
     {
         self.place
+    }
+
+    /// The moments of its node that it knows.
+    pub(crate) fn token(&self) -> Token
+        ensures book { result.book ≡ (seen_of self.now).known.book }
+        ensures log { result.log ≡ (seen_of self.now).known.log }
+    {
+        self.reader.token()
     }
 
     /// Asks for an event, once, waits until the node has taken it, or refused it, or until whoever stands beside has gone, and gives what

@@ -1,6 +1,7 @@
 -- What ends are told of, one after the other, and the run that they have.
-use Rattle.std.proofs.Common.{ℕ, zero, suc, Bool, true, false, ◌≡◌, ◌==◌, ◌+◌, ◌<◌, ◌≤◌, inl, inr, List, [], ◌∷◌, ◌++◌, map, length, refl, sym, ap, ◌∙◌, arith}
-use Rattle.std.specs.Prelude.{if◌then◌else◌, ◌||◌, Result, Ok, Err, IfOk, IfErr}
+use Rattle.std.proofs.Common.{ℕ, zero, suc, Bool, true, false, ◌≡◌, ◌==◌, ◌+◌, ◌<◌, ◌≤◌, inl, inr, List, [], ◌∷◌, ◌++◌, map, length, Vec, refl, sym, ap, subst, ◌∙◌, arith}
+use Rattle.std.specs.Prelude.{if◌then◌else◌, ◌||◌, Result, Ok, Err, IfOk, IfErr, MatchResult}
+use Rattle.std.specs.declared.alloc.Global.{Global}
 use Rattle.std.proofs.Math.Bool.{or-true}
 use Rattle.std.proofs.lemmas.Bool.{cases_eq, eq-eqb, eqb-true, ne_eqb}
 use Rattle.std.proofs.lemmas.List.{map-append, length-map}
@@ -25,10 +26,11 @@ use Rattle.replay.specs.Steps.{log_of}
 use Rattle.node_threads.specs.declared.ending.EndedCluster.{EndedCluster}
 use Rattle.node_threads.specs.declared.ending.EndFault.{EndFault}
 use Rattle.node_threads.specs.declared.ending.EndFault.TheVariants.{LeftInHold, Memory}
+use Rattle.node_seats.specs.Books.{Known}
 use Rattle.node_threads.specs.Wires.{Wired}
-use Rattle.node_threads.specs.Ended.{owner}
+use Rattle.node_threads.specs.Ended.{owner, AllPast}
 use Rattle.node_threads.specs.Closing.{GivesBack}
-use Rattle.node_threads.specs.Ending.{steps_in, AreWell, last_table, table_told, TellsOf, Adds, IsUntold, IsWhy, RanOut, EndIs}
+use Rattle.node_threads.specs.Ending.{steps_in, AreWell, last_table, table_told, TellsOf, Adds, IsUntold, IsWhy, RanOut, EndIs, EndTells}
 use Rattle.node_threads.proofs.Stopping.{first_fails, well_in_order}
 
 -- one end more has its steps more
@@ -189,3 +191,13 @@ module _ {N M : Type 0} (contents : N → Table) (cluster lone : List ℕ) (crew
   }
   ends_so (Err (LeftInHold a)) told why = (ends, back, why, first_fails ends back.left a why)
   ends_so (Err Memory) told why = tt
+
+  -- and with the pasts of their books
+  pub ends_telling : (told : Result (EndedCluster N M) EndFault) → IfOk told (TellsOf contents ends) → IfErr told (λ fault. IsWhy fault ends)
+      → (pasts : Vec Known Global) → AllPast crew ends pasts.items → (r : Result (EndedCluster N M × Vec Known Global) EndFault)
+      → MatchResult r (λ both. (told ≡ Ok both.0) × (both.1 ≡ pasts)) (λ fault. told ≡ Err fault) → EndTells contents cluster lone crew r
+  ends_telling told ok why pasts are (Ok both) m = (
+    ends_so (Ok both.0) (subst (λ (t : Result (EndedCluster N M) EndFault). IfOk t (TellsOf contents ends)) m.0 ok) tt,
+    subst (λ (v : Vec Known Global). AllPast crew ends v.items) (sym m.1) are,
+  )
+  ends_telling told ok why pasts are (Err fault) m = subst (EndIs contents cluster lone crew) m (ends_so told ok why)

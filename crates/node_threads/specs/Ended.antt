@@ -48,6 +48,12 @@ pub record IsPastOf (name : ℕ) (book : Book) (e : End) (past : Known) : Type 0
   pub left : IsLeftBy name e
   pub ends : EndsAt past.log left.loop
 
+-- so the pasts of all these nodes, in their order
+pub record AllPast (ws : List Wired) (ends : List End) (pasts : List Known) : Type 0 where
+  pub as_many : length pasts ≡ length ws
+  pub each : (i : ℕ) (w : Wired) (e : End) (p : Known) → i < length ws
+      → IsPastOf (name_of (slice_index_or ws i w)) (slice_index_or ws i w).inbox.book (slice_index_or ends i e) (slice_index_or pasts i p)
+
 -- of these ends one is this node's, the last turn of whose thread failed where the node hadn't left
 pub record FailsAlone (ends : List End) (a : ℕ) : Type 0 where
   pub end : End

@@ -78,6 +78,28 @@ sound_more known x us mark sound n s book log count up =
       knows = sound.knows;
     }
 
+-- none is held back
+pub none_held : (held : Option Stamp) → is_some held ≡ false → held_back held ≡ []
+none_held None e = refl
+none_held (Some s) e = absurd (cc e)
+
+-- by other names of the same
+pub sound_as : (known : Known) (x y : Shown) (us vs : List Stamp) (mark w : Mark) → IsSound known x us mark → y ≡ x → vs ≡ us → w ≡ mark
+    → IsSound known y vs w
+sound_as known x y us vs mark w sound is waits marked =
+    subst (λ (p : Shown × List Stamp × Mark). IsSound known p.0 p.1 p.2) (λ j. (sym is j, sym waits j, sym marked j)) sound
+
+-- where none was held back, one moment more is written down, and its stamp waits, or is held back
+pub sound_noted : (known more : Known) (x y : Shown) (us vs : List Stamp) (held : Option Stamp) (mark w : Mark) (n : Moment) (s : Stamp)
+    → IsSound known x (us ++ held_back held) mark → is_some held ≡ false → more ≡ record known { log = known.log ++ n ∷ [] }
+    → s.seen.book ≡ more.book → s.seen.log ≡ more.log → s.count ≡ length known.log + 1
+    → updated (shown_at known.log) s.update ≡ shown_at (known.log ++ n ∷ []) → y ≡ x → vs ≡ us ++ s ∷ [] → w ≡ mark → IsSound more y vs w
+sound_noted known more x y us vs held mark w n s sound none added book log count up is waits marked =
+    let before : IsSound known x us mark =
+    subst (λ (l : List Stamp). IsSound known x l mark) (ap (λ (l : List Stamp). us ++ l) (none_held held none) ∙ append-nil us) sound in
+    subst (λ (p : Known × Shown × List Stamp × Mark). IsSound p.0 p.1 p.2 p.3) (λ j. (sym added j, sym is j, sym waits j, sym marked j))
+    (sound_more known x us mark before n s (book ∙ ap (λ (k : Known). k.book) added) (log ∙ ap (λ (k : Known). k.log) added) count up)
+
 -- where nothing waits, all that was written down is shown
 pub all_shown : (known : Known) (x : Shown) (us : List Stamp) (mark : Mark) → IsSound known x us mark → us ≡ [] → edition_of x ≡ shown_at known.log
 all_shown known x us mark sound none = ap (λ (l : List Stamp). (fold stamped (front_of x) l).edition) (sym none) ∙ sound.last
@@ -98,7 +120,3 @@ on_ok C (Err e) a f = tt
 pub when_ok : {T E : Type 0} (r : Result T E) (P : Type 0) → OnOk r P → is_ok r ≡ true → P
 when_ok (Ok x) P h e = h
 when_ok (Err e) P h q = absurd (cc q)
-
-pub none_held : (held : Option Stamp) → is_some held ≡ false → held_back held ≡ []
-none_held None e = refl
-none_held (Some s) e = absurd (cc e)

@@ -10,7 +10,7 @@ use Rattle.node_books.specs.Moments.{AreMoments, shown_at, Rises, last_from}
 use Rattle.node_books.proofs.Beginnings.{prefix_self}
 use Rattle.node_books.proofs.Onward.{loop_on, logs_only_grow}
 use Rattle.node_books.proofs.Showing.{lengths_tell}
-use Rattle.shared_table.specs.Readers.{Seen, Reads}
+use Rattle.shared_table.specs.Readers.{Seen, Reads, IsBehind}
 
 -- of two beginnings of one list the shorter begins the longer
 prefix_shorter : {A : Type 0} (xs ys zs : List A) → IsPrefix xs zs → IsPrefix ys zs → length xs ≤ length ys → IsPrefix xs ys
@@ -101,3 +101,15 @@ module _ (home mine got both : List Moment) (begins : IsPrefix home both) (p : I
         rises = omega (arith, late, told);
         told = told ∙ ap (λ (e : Edition). e.length) (sym same) ∙ ap (λ (ms : List Moment). (shown_at ms).length) (sym is);
       }
+
+-- a moment of the node was read that shows a shorter log than was told
+pub is_behind : (home got both : List Moment) → IsPrefix home both → IsPrefix got both → AreMoments both → 0 < length home → 0 < length got
+    → (node : ℕ) → (shown_at home).node ≡ node → (old new : Seen) → new ≡ old → (shown_at got).length < old.told → IsBehind node old new
+is_behind home got both begins q h known any node own old new same shorter = record {
+  same = same;
+  read = got;
+  some = any;
+  moments = moments_front got q.0 (subst AreMoments (sym q.1) h);
+  own = same_node home got both begins q known any h ∙ own;
+  shorter = shorter;
+}

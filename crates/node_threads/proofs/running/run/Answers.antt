@@ -2,6 +2,7 @@ use Rattle.std.proofs.Common.{ℕ, ap, ◌∙◌}
 use Rattle.replay.specs.Ends.{end_by}
 use Rattle.node_threads.specs.Traffics.{begun}
 use Rattle.node_threads.proofs.Soundness.{gives_back}
+use Rattle.node_threads.proofs.Pasts.{past_of}
 use Rattle.node_threads.proofs.running.run.Goals as goal
 
 pub returns-clause-end : goal.returns-clause-end
@@ -12,3 +13,8 @@ returns-clause-end g c = gives_back c.args.work.node c.args.work.lines.items c.a
     c.requires.came c.turns-publisher.ensures.came c.turns-publisher.ensures.node c.turns-publisher.ensures.sound c.turns-publisher.ensures.same c.end-end.ensures.log c.end-end.ensures.table
     c.turns-publisher.result.1 c.turns-publisher.ensures.stops c.end-end.ensures.ended_alone c.end-end.ensures.sound c.into_parts-lines.ensures.lines c.into_parts-lines.ensures.letters
     c.into_parts-lines.ensures.room
+
+pub returns-clause-past : goal.returns-clause-past
+returns-clause-past g c = past_of c.args.work.node.log.node (end_by g.N.Names.contents g.L.Record.logged c.end-end.result) (returns-clause-end g c).left
+    c.turns-publisher.result.0.publisher.known c.args.work.publisher.publisher.known.book c.turns-publisher.ensures.book c.seal-table.result.1
+    c.seal-table.ensures _ c.ok.ensures.value

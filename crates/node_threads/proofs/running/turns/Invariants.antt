@@ -14,3 +14,4 @@ invariant-loop g l =
     × ((o : Opening) → IsSoundAt o l.fn.node l.fn.end → IsSoundAt o l.node l.end)
     × (fixed l.end ≡ fixed l.fn.end) × Publishes l.node l.publisher.publisher
     × ((n : ℕ) × GoesOn n l.fn.node l.node)
+    × (l.publisher.publisher.known.book ≡ l.fn.publisher.publisher.known.book)
