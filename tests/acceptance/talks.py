@@ -229,12 +229,10 @@ def client_goes_while_its_call_waits(program, *options):
             expect_same("an answer", answer, hears(second, line, program.seconds))
         second.say(b"set_lock self leader two all infinity\n")
         ask, found = b"set_lock a.2 leader two all 0", b"false"
-        while found == b"false":
-            found = hears(first, ask, program.seconds)
-        expect_same("the answer while it waits", b"error busy", found)
+        expect_same("the answer while it waits", found, hears(first, ask, program.seconds))
         second.go()
         until = time.monotonic() + program.seconds
-        while found == b"error busy" and time.monotonic() < until:
+        while found == b"false" and time.monotonic() < until:
             found = hears(first, ask, program.seconds)
         expect_same("the answer when its client has gone", b"error not_live", found)
         # What was given up has no part in the lock.

@@ -1,14 +1,16 @@
 //! How a node stands, and the server that serves its consoles.
-ghost use Rattle.std.specs.Prelude.{◌≡◌, ◌++◌, IfOk, OnOk, string_bytes};
+ghost use Rattle.std.specs.Prelude.{◌≡◌, ◌++◌, IfErr, IfOk, OnOk, string_bytes};
+ghost use Rattle.node_seats.specs.Callers.{IsEnd};
 ghost use Rattle.console.specs.declared.status.Load.{Load as AnyLoad};
 ghost use Rattle.console.specs.Statuses.{load_text, node_text, numbers_text, status_line as any_line, status_outcome, standing_word};
 
 use crate::outcomes::seat_line;
 use descriptions::SharedDescriptions;
 use lock_lines::LockLines;
-use node_seats::{NodeStatus, Numbers, SeatFault};
+use node_seats::{NodeStatus, Notes, Numbers, Seat, SeatFault};
 use std::alloc::{AllocError, Global};
 use std::fmt::Write as _;
+use term::Node;
 
 /// What a server bears.
 #[derive(Clone, Copy, Debug, PartialEq, Eq)]
@@ -32,6 +34,9 @@ pub struct Status {
 
 /// A server that serves consoles until one asks for its end, as it tells of itself. It is given what it waits with, of the type `H`.
 pub trait House<H> {
+    /// What its seats note.
+    type Notes: Notes;
+
     /// It may bear so much.
     ghost bears: { Self → AnyLoad → Type 0 };
 
@@ -44,6 +49,15 @@ pub trait House<H> {
 
     /// What is said of the processes of its nodes.
     fn descriptions(&self) -> &SharedDescriptions;
+
+    /// Lends a seat of this node, once one is free: those that ask first have one first. It must come back before the same console asks for
+    /// another. `Closed`: it lends none of this node.
+    fn lend(&self, rt: &H, node: &Node) -> Result<Seat<Self::Notes>, SeatFault>
+        ensures node { IfOk result (λ seat. seat.node ≡ node.now) }
+        ensures none { IfErr result IsEnd };
+
+    /// Takes a seat back that it has lent.
+    fn take_back(&self, rt: &H, seat: Seat<Self::Notes>);
 }
 
 /// The word for whether a node is joined.

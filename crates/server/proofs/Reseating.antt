@@ -27,9 +27,9 @@ reseats_both c m d a b = record {
   is = b.is ∙ ap (λ (x : Crewed). reseated b.turns x) a.is ∙ sym (reseated-append a.turns b.turns c);
 }
 
--- one is taken back
-pub reseats_fewer : (slot : ℕ) (c d : Crewed) → d ≡ seats_fewer slot c → Reseats c d
-reseats_fewer slot c d is = record { turns = Some slot ∷ []; is = is }
+-- none
+pub reseats_none : (c : Crewed) → Reseats c c
+reseats_none c = record { turns = []; is = refl }
 
 -- a seat was asked for, and given or refused
 pub reseats_asked : {A B : Type 0} (c d : Crewed) (r : Result A B) → OnOk r (d ≡ seats_more c) → OnErr r (d ≡ c) → Reseats c d
@@ -54,15 +54,17 @@ all_nodes cluster lone nodes c fine joined others all n =
     all (omega (arith, few cluster lone fine, length-append cluster lone)) n ∙ sym (set_of-append cluster lone n)
     ∙ (λ j. set_of (sym joined j ++ sym others j) n)
 
--- behind the first line seats came and went, and the last line tells what that came to
-pub tells_behind : (c last : Crewed) (line : List ℕ) (old mid new : Option (List ℕ)) → Appends old mid line → Reseats c last
-    → (r : Result Bool StayFault) → TellsEnd last mid new r → StaysRunning c line old new r
-tells_behind c last line old mid new h seats (Ok good) t =
-    (last, seats, t.0, t.1, t.2, Appends-trans old mid new line (end_line t.0) h t.3)
-tells_behind c last line old mid new h seats (Err Write) t =
-    inr (last, seats, t.0, t.1, AppendsPart-behind old mid new line (end_line t.0) h t.2)
-tells_behind c last line old mid new h seats (Err Memory) t = Appends-kept old mid new line h t
-tells_behind c last line old mid new h seats (Err Start) t = absurd t
+-- the same where seats were given out
+pub all_kept : (nodes : List ℕ) (c d : Crewed) → Reseats c d → AreAll nodes c → AreAll nodes d
+all_kept nodes c d r all n = all n ∙ sym (λ j. set_of ((reseats_keep c d r).0 j ++ (reseats_keep c d r).1 j) n)
+
+-- behind the first line the last one tells what the cluster came to
+pub tells_behind : (c : Crewed) (line : List ℕ) (old mid new : Option (List ℕ)) → Appends old mid line → (r : Result Bool StayFault)
+    → TellsEnd c mid new r → StaysRunning c line old new r
+tells_behind c line old mid new h (Ok good) t = (t.0, t.1, t.2, Appends-trans old mid new line (end_line t.0) h t.3)
+tells_behind c line old mid new h (Err Write) t = inr (t.0, t.1, AppendsPart-behind old mid new line (end_line t.0) h t.2)
+tells_behind c line old mid new h (Err Memory) t = Appends-kept old mid new line h t
+tells_behind c line old mid new h (Err Start) t = absurd t
 
 module _ (cluster lone : List ℕ) (first : Crewed) (joined : first.cluster ≡ cluster) (others : first.lone ≡ lone) (crew : IsCrew cluster lone first.crew) (unused : first.seating ≡ no_seats) where
   ends_after : (last : Crewed) → Reseats first last → (ending : Ending) → Ends last ending → EndsAfter cluster lone ending
@@ -79,12 +81,12 @@ module _ (cluster lone : List ℕ) (first : Crewed) (joined : first.cluster ≡ 
       kept : (last.cluster ≡ first.cluster) × (last.lone ≡ first.lone) × (last.crew ≡ first.crew)
       kept = reseats_keep first last seats
 
-  pub stays : (line : List ℕ) (old new : Option (List ℕ)) (r : Result Bool StayFault) → StaysRunning first line old new r
-      → StaysCluster cluster lone line old new r
-  stays line old new (Ok good) t = (t.2, ends_after t.0 t.1 t.2 t.3, t.4, t.5)
-  stays line old new (Err Write) t = elim t [
+  pub stays : (last : Crewed) → Reseats first last → (line : List ℕ) (old new : Option (List ℕ)) (r : Result Bool StayFault)
+      → StaysRunning last line old new r → StaysCluster cluster lone line old new r
+  stays last seats line old new (Ok good) t = (t.0, ends_after last seats t.0 t.1, t.2, t.3)
+  stays last seats line old new (Err Write) t = elim t [
     | inl p ↦ inl p
-    | inr p ↦ inr (p.2, ends_after p.0 p.1 p.2 p.3, p.4)
+    | inr p ↦ inr (p.0, ends_after last seats p.0 p.1, p.2)
   ]
-  stays line old new (Err Memory) t = t
-  stays line old new (Err Start) t = absurd t
+  stays last seats line old new (Err Memory) t = t
+  stays last seats line old new (Err Start) t = absurd t

@@ -1,5 +1,5 @@
 -- What serving a cluster comes to that stays until a console asks for its end.
-use Rattle.std.specs.Prelude.{ℕ, Bool, ◌≡◌, ◌+◌, ◌⊎◌, min, is_ok, All, length, List, [], ◌∷◌, ◌++◌, codes, Option, Some, None, Result, Ok, Err}
+use Rattle.std.specs.Prelude.{ℕ, zero, suc, Bool, ◌≡◌, ◌+◌, ◌/◌, ◌⊎◌, min, is_ok, All, length, List, [], ◌∷◌, ◌++◌, codes, Option, Some, None, Result, Ok, Err}
 use Rattle.std.specs.Global.{Global}
 use Rattle.std.specs.declared.thread.PromisedHandle.{PromisedHandle}
 use Rattle.std.specs.Io.KnownBytes.{Appends, Keeps}
@@ -61,6 +61,11 @@ Crew = List (PromisedHandle (List ℕ) Posted)
 abbrev pub Serve : List ℕ → Crew → Type 0
 Serve nodes threads = All (λ t. t.promise.0.value ≡ nodes) threads
 
+-- how many seats each of so many nodes has that a server lends
+abbrev pub share : ℕ → ℕ
+share zero = 0
+share (suc n) = 64 / suc n
+
 -- so many more were started, for just these
 pub record Starts (nodes : List ℕ) (many : ℕ) (old new : Crew) : Type 0 where
   pub served : Serve nodes old → Serve nodes new
@@ -77,18 +82,16 @@ TellsEnd c old new (Err Write) = (ending : Ending) × Ends c ending × AppendsPa
 TellsEnd c old new (Err Memory) = Keeps old new
 TellsEnd c old new (Err Start) = ⊥
 
--- the writer got this first line from a cluster whose threads are all there; then seats were given out and taken back until it ended, and
--- the writer got the line that tells so. Where it failed it got a part, of the first line or behind it; for the last one memory may be
--- refused
+-- the writer got this first line from a cluster whose threads are all there, and then the line that tells how it ended. Where it failed it
+-- got a part, of the first line or behind it; for the last one memory may be refused
 abbrev pub StaysRunning : Crewed → List ℕ → Option (List ℕ) → Option (List ℕ) → Result Bool StayFault → Type 0
-StaysRunning c first old new (Ok good) = (last : Crewed) × Reseats c last × (ending : Ending) × Ends last ending
-    × (good ≡ is_ok ending) × Appends old new (first ++ end_line ending)
+StaysRunning c first old new (Ok good) = (ending : Ending) × Ends c ending × (good ≡ is_ok ending) × Appends old new (first ++ end_line ending)
 StaysRunning c first old new (Err Write) = AppendsPart old new first
-    ⊎ ((last : Crewed) × Reseats c last × (ending : Ending) × Ends last ending × AppendsPart old new (first ++ end_line ending))
+    ⊎ ((ending : Ending) × Ends c ending × AppendsPart old new (first ++ end_line ending))
 StaysRunning c first old new (Err Memory) = Appends old new first
 StaysRunning c first old new (Err Start) = ⊥
 
--- A cluster of these nodes gave out its seats, from the first on, and took them back, and ended so
+-- A cluster of these nodes gave out seats, from the first on, and ended so
 pub record EndsAfter (cluster lone : List ℕ) (ending : Ending) : Type 0 where
   pub first : Crewed
   pub crew : IsCrew cluster lone first.crew

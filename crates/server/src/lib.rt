@@ -14,8 +14,8 @@ pub use console::Cookie;
 pub use entry::Entry;
 pub use faults::{ServeFault, StayFault};
 pub use node_threads::{
-    Call, Cluster, NodeStatus, Numbers, OpenGate, Reply, Seat, SeatFault, StartFault, StepFault,
-    Transcript,
+    Call, Cluster, KeptNotes, NodeStatus, Numbers, OpenGate, Reply, Seat, SeatFault, StartFault,
+    StepFault, Transcript,
 };
 pub use serving::run_serve;
 pub use staying::{Lookout, Spent, StayOptions, run_stay};

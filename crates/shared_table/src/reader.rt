@@ -168,6 +168,13 @@ impl TableReader {
         self.seen.again()
     }
 
+    /// The length of the node's log that it was told of, or has read.
+    pub fn told(&self) -> u64
+        ensures { result ≡ self.now.seen.told }
+    {
+        self.told
+    }
+
     /// It is told that the node's log has this length: a look-up answers from no shorter one then.
     pub fn learn(&mut self, length: u64)
         ensures { self.new ≡ record self.old { seen = record self.old.seen { told = max self.old.seen.told length } } }

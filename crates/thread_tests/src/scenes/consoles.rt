@@ -195,7 +195,7 @@ fn is_end(found: Result<ConsoleEnd, ConsoleFault>, wanted: ConsoleEnd) -> bool {
     }
 }
 
-/// Whether a console of a server that stays, at a seat, answers lines with this text, and ends so; and the seat.
+/// Whether a console of a server that stays, which is lent this seat, answers lines with this text, and ends so; and the seat, if it came back.
 fn hold<H: Wait + Clock, C: Client + Drop>(
     rt: &H,
     alloc: Global,
@@ -204,23 +204,16 @@ fn hold<H: Wait + Clock, C: Client + Drop>(
     lines: &[u8],
     text: &[u8],
     wanted: ConsoleEnd,
-) -> (bool, Seat) {
+) -> (bool, Option<Seat>) {
     match BufReader::new(alloc, Cursor::new(lines)) {
         Ok(mut reader) => {
             let mut written = Vec::new(alloc);
-            let home = Home::new(alloc);
-            let (result, seat) = serve_staying(
-                rt,
-                alloc,
-                &mut reader,
-                &mut written,
-                seat,
-                client,
-                &home,
-            );
-            (is_end(result, wanted) && written.as_slice() == text, seat)
+            let node = seat.node().copy();
+            let home = Home::new(alloc, seat);
+            let result = serve_staying(rt, alloc, &mut reader, &mut written, node, client, &home);
+            (is_end(result, wanted) && written.as_slice() == text, home.take_seat(rt))
         }
-        Err(_) => (false, seat),
+        Err(_) => (false, Some(seat)),
     }
 }
 
@@ -234,10 +227,16 @@ fn holds_twice<H: Wait + Clock>(
     let lines = b"spawn\nspawn_link\nquit\n".as_slice();
     let text = b"a.1\na.2\nok\n".as_slice();
     let (first, seat) = hold(rt, alloc, seat, Listener, lines, text, ConsoleEnd::Quit);
+    let Some(seat) = seat else {
+        return false;
+    };
     let lines = b"exit a.1\nexit a.2\nspawn\nshutdown\nspawn\n".as_slice();
     let text = b"ok\nerror already_exited\na.3\nok\n".as_slice();
     let (second, seat) = hold(rt, alloc, seat, Listener, lines, text, ConsoleEnd::Shutdown);
-    keeps(told, seat.into_transcript(), 5) && first && second
+    match seat {
+        Some(seat) => keeps(told, seat.into_transcript(), 5) && first && second,
+        None => false,
+    }
 }
 
 /// Whether a console of this client, at a new seat of a node, answers lines with this text. The seat is given back.
@@ -253,8 +252,13 @@ fn answers<H: Wait + Clock, C: Client + Drop>(
     match cluster.seat(node) {
         Ok(seat) => {
             let (is_due, seat) = hold(rt, alloc, seat, client, lines, text, ConsoleEnd::Input);
-            cluster.give_back(seat);
-            is_due
+            match seat {
+                Some(seat) => {
+                    cluster.give_back(seat);
+                    is_due
+                }
+                None => false,
+            }
         }
         Err(_) => false,
     }
