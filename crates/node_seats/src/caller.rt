@@ -1,6 +1,6 @@
 //! How a thread asks a node's thread.
 ghost use Rattle.std.specs.Prelude.{◌≡◌, ◌<◌, ◌≤◌, ◌+◌, ◌^◌, ◌++◌, ◌∷◌, ◌⊎◌, [], length, max, true, false, IfOk, OnOk, OnErr, IfErr, IfSome, Ok, Err};
-ghost use Rattle.shared_table.specs.Readers.{unseen};
+ghost use Rattle.shared_table.specs.Readers.{Finds, unseen};
 ghost use Rattle.shared_table.specs.Events.{knows_contact as knows};
 ghost use Rattle.shared_table.specs.declared.Event.TheVariants.{Call as Calls};
 ghost use Rattle.node_seats.specs.Addresses.{inbox_at};
@@ -267,12 +267,23 @@ impl Caller {
         if self.hub.is_over() {
             return Err(SeatFault::Closed);
         }
-        match self.reader.whereis(name) {
+        match self.read(name) {
             Lookup::Owner(owner) => Ok(owner),
             Lookup::Left => Err(SeatFault::NodeLeft),
             // No thread tells of what it hasn't published: so the table is never behind what was told.
             Lookup::Behind | Lookup::Gone => Err(SeatFault::Closed),
         }
+    }
+
+    /// Reads a name in the node's table.
+    fn read(&mut self, name: &Name) -> Lookup
+        ensures place { place_of self.new ≡ place_of self.old }
+        ensures node { name_of self.new ≡ name_of self.old }
+        ensures nodes { nodes_of self.new ≡ nodes_of self.old }
+        ensures line { self.new.line ≡ self.old.line }
+        ensures finds { Finds result (name_of self.old) name.now (seen_of self.old) (seen_of self.new) }
+    {
+        self.reader.whereis(name)
     }
 
     /// How the node stands, as its thread told last. It asks the node for nothing, and waits for nobody. `NodeLeft`: the node has left.
