@@ -1,6 +1,6 @@
 -- What a publisher holds, from one call to the next.
 use Rattle.std.proofs.Common.{◌≡◌, ◌+◌, ◌<◌, ℕ, true, false, List, [], ◌∷◌, ◌++◌, length, Option, Some, None, Ok, Err, sym, refl, ap, ◌∙◌, subst, arith, append-nil, length-append}
-use Rattle.std.specs.Prelude.{Result, MatchResult, OnOk, is_ok, is_some}
+use Rattle.std.specs.Prelude.{Bool, Result, MatchResult, OnOk, OnErr, ◌↔◌, IsTrue, is_ok, is_some}
 use Rattle.std.specs.List.{fold}
 use Rattle.left_right.specs.Register.{TurnsAt}
 use Rattle.node_books.specs.declared.Edition.{Edition}
@@ -81,7 +81,7 @@ sound_more known x us mark sound n s book log count up =
 -- none is held back
 pub none_held : (held : Option Stamp) → is_some held ≡ false → held_back held ≡ []
 none_held None e = refl
-none_held (Some s) e = absurd (cc e)
+none_held (Some s) e = cc
 
 -- by other names of the same
 pub sound_as : (known : Known) (x y : Shown) (us vs : List Stamp) (mark w : Mark) → IsSound known x us mark → y ≡ x → vs ≡ us → w ≡ mark
@@ -111,12 +111,21 @@ either_way (Err e) a b f g = g e a b
 -- where it succeeded
 pub only_ok : {T E C : Type 0} {P P' : T → Type 0} {Q Q' : E → Type 0} (r : Result T E) → is_ok r ≡ true → MatchResult r P Q → MatchResult r P' Q' → ((x : T) → P x → P' x → C) → C
 only_ok (Ok x) e a b f = f x a b
-only_ok (Err e) h a b f = absurd (cc h)
+only_ok (Err y) e a b f = cc
 
 pub on_ok : {T E : Type 0} {P : T → Type 0} {Q : E → Type 0} (C : Type 0) (r : Result T E) → MatchResult r P Q → ((x : T) → P x → C) → OnOk r C
 on_ok C (Ok x) a f = f x a
 on_ok C (Err e) a f = tt
 
+pub on_err : {T E : Type 0} {P : T → Type 0} {Q : E → Type 0} (C : Type 0) (r : Result T E) → MatchResult r P Q → ((e : E) → Q e → C) → OnErr r C
+on_err C (Ok x) a f = tt
+on_err C (Err e) a f = f e a
+
 pub when_ok : {T E : Type 0} (r : Result T E) (P : Type 0) → OnOk r P → is_ok r ≡ true → P
 when_ok (Ok x) P h e = h
-when_ok (Err e) P h q = absurd (cc q)
+when_ok (Err y) P h e = cc
+
+-- nothing waits
+pub none_waits : (us : List Stamp) (b : Bool) → (IsTrue b ↔ (0 < length us)) → b ≡ false → us ≡ []
+none_waits [] b h e = refl
+none_waits (u ∷ us) b h e = let t : b ≡ true = h.1 (omega arith) in absurd (cc (t, e))
