@@ -1,6 +1,6 @@
 -- What a publisher holds, from one call to the next.
 use Rattle.std.proofs.Common.{◌≡◌, ◌+◌, ◌<◌, ℕ, true, false, List, [], ◌∷◌, ◌++◌, length, Option, Some, None, Ok, Err, sym, refl, ap, ◌∙◌, subst, arith, append-nil, length-append}
-use Rattle.std.specs.Prelude.{Bool, Result, MatchResult, OnOk, OnErr, ◌↔◌, IsTrue, is_ok, is_some}
+use Rattle.std.specs.Prelude.{Bool, Result, MatchResult, OnOk, OnErr, ◌↔◌, IsTrue, is_ok, is_err, is_some}
 use Rattle.std.specs.List.{fold}
 use Rattle.left_right.specs.Register.{TurnsAt}
 use Rattle.node_books.specs.declared.Edition.{Edition}
@@ -10,6 +10,7 @@ use Rattle.node_books.specs.Owing.{shown_by}
 use Rattle.node_books.specs.declared.moment.Moment.{Moment}
 use Rattle.node_books.specs.Books.{Known}
 use Rattle.node_books.specs.Moments.{moment, shown_at}
+use Rattle.node_books.proofs.Taking.{shown_behind}
 use Rattle.shared_table.specs.declared.shown.Shown.{Shown}
 use Rattle.shared_table.specs.declared.shown.Front.{Front}
 use Rattle.shared_table.specs.declared.shown.Stamp.{Stamp}
@@ -100,6 +101,17 @@ sound_noted known more x y us vs held mark w n s sound none added book log count
     subst (λ (p : Known × Shown × List Stamp × Mark). IsSound p.0 p.1 p.2 p.3) (λ j. (sym added j, sym is j, sym waits j, sym marked j))
     (sound_more known x us mark before n s (book ∙ ap (λ (k : Known). k.book) added) (log ∙ ap (λ (k : Known). k.log) added) count up)
 
+-- so where what was held back was put in before
+pub sound_written : (known more : Known) (x y z : Shown) (us vs ws : List Stamp) (first held back : Option Stamp) (mark next last : Mark) (b : Looping)
+    (s : Stamp) → IsSound known x (us ++ held_back first) mark → y ≡ x → vs ++ held_back held ≡ us ++ held_back first → next ≡ mark
+    → is_some held ≡ false → more ≡ record known { log = known.log ++ moment false b ∷ [] } → s.seen.book ≡ more.book → s.seen.log ≡ more.log
+    → s.count ≡ length known.log + 1 → updated (shown_at known.log) s.update ≡ shown_by b → z ≡ y → ws ++ held_back back ≡ vs ++ s ∷ [] → last ≡ next
+    → IsSound more z (ws ++ held_back back) last
+sound_written known more x y z us vs ws first held back mark next last b s sound same before marked none added book log count up is waits ends =
+    sound_noted known more y z vs (ws ++ held_back back) held next last (moment false b) s
+    (sound_as known x y (us ++ held_back first) (vs ++ held_back held) mark next sound same before marked) none added book log count
+    (up ∙ sym (shown_behind known.log b)) is waits ends
+
 -- where nothing waits, all that was written down is shown
 pub all_shown : (known : Known) (x : Shown) (us : List Stamp) (mark : Mark) → IsSound known x us mark → us ≡ [] → edition_of x ≡ shown_at known.log
 all_shown known x us mark sound none = ap (λ (l : List Stamp). (fold stamped (front_of x) l).edition) (sym none) ∙ sound.last
@@ -124,6 +136,11 @@ on_err C (Err e) a f = f e a
 pub when_ok : {T E : Type 0} (r : Result T E) (P : Type 0) → OnOk r P → is_ok r ≡ true → P
 when_ok (Ok x) P h e = h
 when_ok (Err y) P h e = cc
+
+-- where it didn't
+pub when_err : {T E : Type 0} (r : Result T E) (P : Type 0) → OnErr r P → is_err r ≡ true → P
+when_err (Ok x) P h e = cc
+when_err (Err y) P h e = h
 
 -- nothing waits
 pub none_waits : (us : List Stamp) (b : Bool) → (IsTrue b ↔ (0 < length us)) → b ≡ false → us ≡ []
