@@ -1,5 +1,5 @@
 -- Behind how long a log a node has shown its readers an edition.
-use Rattle.std.proofs.Common.{ℕ, ◌≡◌, ap, sym, ◌∙◌, subst, refl}
+use Rattle.std.proofs.Common.{ℕ, ◌≡◌, [], ap, sym, ◌∙◌, subst, refl}
 use Rattle.shared_table.specs.declared.Edition.{Edition}
 use Rattle.shared_table.specs.Coming.{begun, IsLoopOf}
 use Rattle.shared_table.specs.Openings.{opening_core}
