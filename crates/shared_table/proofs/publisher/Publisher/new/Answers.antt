@@ -66,7 +66,8 @@ returns-clause-log g c =
 pub returns-clause-shown : goal.returns-clause-shown
 returns-clause-shown g c =
     let n = c.publish_as-writer.result.0 in
+    let all : c.add.new.self.log ≡ moment false c.args.node.now ∷ [] = returns-clause-log g c in
     only_ok c.publish_as-writer.result.1 (c.is_err-2.ensures.negation ∙ ap not c.if-is_err-2.false) c.publish_as-writer.ensures.values
     c.publish_as-writer.ensures.rule (λ x values rule. all_shown c.add.new.self n.desk.shown.value (drop n.behind n.log.items ++ [])
     (mark_at n.desk.place) (invariant_of-result g c).3 (ap (λ l. l ++ []) values.1))
-    ∙ ap shown_at (returns-clause-log g c)
+    ∙ ap shown_at all
