@@ -1,6 +1,7 @@
 //! The world: up to eight nodes with their links, which plays events one by one, in every order of deliveries.
 #![tactic(auto)]
 
+mod admission;
 mod history;
 pub mod laws;
 mod mail;

@@ -3,6 +3,7 @@ use Rattle.protocol_model.specs.Links.{posted}
 use Rattle.node_core.specs.declared.Letter.{Letter}
 use Rattle.cluster_world.specs.Links.{SentLetter, letters_to}
 use Rattle.cluster_world.specs.Mail.{Mailed, on_links}
+use Rattle.cluster_world.proofs.Listed.{known_place}
 use Rattle.cluster_world.proofs.Mails.{IsSending, sending_first, sending_place, sending_past, sending_one, sending_back}
 use Rattle.cluster_world.proofs.mail.Mail.send_all.Goals as goal
 
@@ -31,12 +32,6 @@ loop-receiver-preserved-then-reaches c =
 
 pub send_from-requires : goal.send_from-requires
 send_from-requires c =
-    let v : Mailed = record {
-      nodes = c.self.inside.nodes;
-      departed = c.self.inside.departed;
-      mesh = c.self.inside.mesh;
-      unsent = c.self.inside.unsent;
-    } in
     let m : Mailed = record {
       nodes = c.loop-receiver.self-inside.nodes;
       departed = c.loop-receiver.self-inside.departed;
@@ -44,8 +39,7 @@ send_from-requires c =
       unsent = c.loop-receiver.self-inside.unsent;
     } in
     (sending_place c.args.sender.now c.args.self.now c.args.letters.now.items m c.loop-receiver.letters.items
-    c.loop-receiver.invariant v c.self.view_is c.on_mesh.result c.in-Some.place c.on_mesh.ensures
-    (sym c.place.ensures ∙ c.in-Some.is)).0
+    c.loop-receiver.invariant c.args.place c.requires.sender).0
 
 -- the mail amid the sending of the letters, one of which memory was refused for
 module _ (c : goal.After-push_front_reserved) where
@@ -85,12 +79,6 @@ returns-in-Err-clause-links c = (back c).links
 
 pub loop-receiver-preserved : goal.loop-receiver-preserved
 loop-receiver-preserved c =
-    let v : Mailed = record {
-      nodes = c.self.inside.nodes;
-      departed = c.self.inside.departed;
-      mesh = c.self.inside.mesh;
-      unsent = c.self.inside.unsent;
-    } in
     let m : Mailed = record {
       nodes = c.loop-receiver.self-inside.nodes;
       departed = c.loop-receiver.self-inside.departed;
@@ -98,14 +86,14 @@ loop-receiver-preserved c =
       unsent = c.loop-receiver.self-inside.unsent;
     } in
     let at = sending_place c.args.sender.now c.args.self.now c.args.letters.now.items m c.loop-receiver.letters.items
-    c.loop-receiver.invariant
-    v c.self.view_is c.on_mesh.result c.in-Some.place c.on_mesh.ensures (sym c.place.ensures ∙ c.in-Some.is) in
+    c.loop-receiver.invariant c.args.place c.requires.sender in
     sending_one c.args.sender.now c.args.self.now c.args.letters.now.items m c.loop-receiver.letters.items
     c.pop_front.new.self.items c.in-Some-pop_front.receiver c.in-Some-pop_front.letter c.loop-receiver.invariant
     c.in-Some-pop_front.ensures.items
-    c.send_from.new.self _ c.on_mesh-in-Some-pop_front.result
+    c.send_from.new.self _ c.on_mesh.result
     (record { sender = c.copy.result; letter = c.in-Some-pop_front.letter })
-    c.requires.sender (sym c.if-reaches.ensures) at.1 c.on_mesh-in-Some-pop_front.ensures
+    (known_place c.args.self.now.nodes c.args.sender.now c.args.place c.requires.sender) (sym c.if-reaches.ensures) at.1
+    c.on_mesh.ensures
     (ap (λ (x : ℕ). record { sender = x; letter = c.in-Some-pop_front.letter }) c.copy.ensures)
     c.in_default-send_from.ensures.nodes c.in_default-send_from.ensures.ok
 

@@ -1,4 +1,5 @@
-use Rattle.std.proofs.Common.{None, ap, sym, subst, ◌∙◌}
+use Rattle.std.proofs.Common.{None, Some, ap, sym, subst, ◌∙◌, Option, ℕ}
+use Rattle.std.specs.Prelude.{MatchOption, IfSome}
 use Rattle.link.specs.Held.{place}
 use Rattle.cluster_world.specs.Held.{Held}
 use Rattle.cluster_world.specs.Playing.{WaitsOn}
@@ -11,16 +12,3 @@ returns-in_err-sender g c =
     rw c.from_residual.ensures
     (subst (λ (k : Held). WaitsOn None k) c.self.view_is
     (waits_nowhere _ c.self.invariant c.nodes-nodes.ensures.left c.in_err-sender.ensures))
-
-pub unreachable-requires : goal.unreachable-requires
-unreachable-requires g c =
-    has_place _ c.self.invariant c.nodes-nodes.ensures.left c.in_ok-sender.sender c.in_ok-sender.receiver
-    c.in_ok-sender.ensures
-    (ap (place c.in_ok-sender.receiver) (sym c.nodes-nodes.ensures.nodes) ∙ sym c.in_default.ensures)
-
-pub returns : goal.returns
-returns g c =
-    subst (λ (k : Held). IsNextLetter c.in-Some.place c.in_ok-sender.sender c.in_ok-sender.receiver k) c.self.view_is
-    (first_letter _ c.self.invariant c.nodes-nodes.ensures.left c.in_ok-sender.sender c.in_ok-sender.receiver
-    c.in_ok-sender.ensures c.in-Some.place
-    (ap (place c.in_ok-sender.receiver) (sym c.nodes-nodes.ensures.nodes) ∙ sym c.in-Some.ensures))
