@@ -590,6 +590,11 @@ front_named h sound x y s front = go ((on_mesh h.mesh).queue x y) (sound.named x
     go [] all e = cc
     go (r ∷ q) all e = ap (λ (u : SentLetter). name_of u.sender) (some_is s r e) ∙ (All-head (IsOf h.nodes x) r q all).0
 
+-- what was copied of a place of these nodes stands there
+pub stands_there : (ns ms : List ℕ) (i a b : ℕ) → a ≡ b → b ≡ get_or ns i b → ns ≡ ms → a ≡ get_or ms i a
+stands_there ns ms i a b same is are = same ∙ is ∙ ap (λ (x : ℕ). get_or ns i x) (sym same)
+    ∙ ap (λ (xs : List ℕ). get_or xs i a) are
+
 -- so the link at these places is the one between its sender and the node that stands there
 pub link_of_front : (h : Mailed) → IsSound h → IsNodeSet h.nodes → (k : LinkPlace) → IsWithin k h.mesh → (s : SentLetter)
     → Some s ≡ slice_get ((on_mesh h.mesh).queue (from_of k h.mesh) (to_of k h.mesh)) 0 → (t : ℕ)

@@ -20,3 +20,39 @@ first_sender-requires g c =
     reads_between _ c.args.self.now c.self.view_is c.self.invariant c.args.sender.now c.args.receiver.now c.in-Some-Some.to
     c.in-Some-Some.ensures'.place c.index.result.now c.index.ensures c.node-node.result.now c.node-node.ensures.name
     (record { sender = c.in-Some-Some.from; receiver = c.in-Some-Some.to }) refl c.in-Some-Some.ensures.place
+
+pub returns-in-Some-clause-ok : goal.returns-in-Some-clause-ok
+returns-in-Some-clause-ok g c =
+    ready_found _ c.args.self.now c.self.view_is c.self.invariant c.args.sender.now c.args.receiver.now c.in-Some-Some.to
+    c.in-Some-Some.ensures'.place c.index.result.now c.index.ensures c.node-node.result.now c.node-node.ensures.name
+    c.place_of.ensures.left
+    (record {
+      link = record { sender = c.in-Some-Some.from; receiver = c.in-Some-Some.to };
+      sender = c.in-Some.sender;
+      receiver = c.copy.result;
+    }) refl c.copy.ensures c.in-Some-Some.ensures.place c.in-Some.ensures.first
+
+pub returns-in-Some-clause-event : goal.returns-in-Some-clause-event
+returns-in-Some-clause-event g c =
+    same_event _ c.args.self.now c.self.view_is c.self.invariant c.args.sender.now c.args.receiver.now c.in-Some-Some.to
+    c.in-Some-Some.ensures'.place c.index.result.now c.index.ensures c.node-node.result.now c.node-node.ensures.name
+    c.place_of.ensures.left
+    (record {
+      link = record { sender = c.in-Some-Some.from; receiver = c.in-Some-Some.to };
+      sender = c.in-Some.sender;
+      receiver = c.copy.result;
+    }) refl c.copy.ensures c.in-Some-Some.ensures.place c.in-Some.ensures.first
+
+pub returns-then-has_left-clause-refused : goal.returns-then-has_left-clause-refused
+returns-then-has_left-clause-refused g c =
+    refuses_found_left _ c.args.self.now c.self.view_is c.self.invariant c.args.sender.now c.args.receiver.now c.in-Some-Some.to
+    c.in-Some-Some.ensures'.place c.index.result.now c.index.ensures c.node-node.result.now c.node-node.ensures.name
+    c.place_of.ensures.left c.in-Some-Some.from c.in-Some-Some.ensures.place c.first_sender.result c.first_sender.ensures.first
+    c.in-None.is (sym c.has_left.ensures ∙ c.if-has_left.true)
+
+pub returns-in-None-clause-refused : goal.returns-in-None-clause-refused
+returns-in-None-clause-refused g c =
+    refuses_found_empty _ c.args.self.now c.self.view_is c.self.invariant c.args.sender.now c.args.receiver.now c.in-Some-Some.to
+    c.in-Some-Some.ensures'.place c.index.result.now c.index.ensures c.node-node.result.now c.node-node.ensures.name
+    c.place_of.ensures.left c.in-Some-Some.from c.in-Some-Some.ensures.place c.first_sender.result c.first_sender.ensures.first
+    c.in-None.is (sym c.has_left.ensures ∙ c.if-has_left.false)
