@@ -6,8 +6,8 @@ use Rattle.cluster_world.specs.Mail.{Mailed, on_links}
 use Rattle.cluster_world.proofs.Mailing.{stands_there, link_of_front, first_delivery, none_on_mesh}
 use Rattle.cluster_world.proofs.mail.Mail.first_on_mesh.Goals as goal
 
-pub bounds-as_slice-receiver : goal.bounds-as_slice-receiver
-bounds-as_slice-receiver c =
+pub bounds-as_slice-link : goal.bounds-as_slice-link
+bounds-as_slice-link c =
     omega (arith, c.in_ok-link.ensures.0.1, ap (λ (ns : List ℕ). length ns) c.self.invariant.names,
     length-map c.self.inside.nodes name_of, ap (λ (ns : List ℕ). length ns) c.as_slice.ensures.nodes)
 
@@ -25,7 +25,7 @@ module _ (c : goal.After-copy-receiver) where
   between = link_of_front v c.self.invariant c.as_slice.ensures.set c.in_ok-link.link c.in_ok-link.ensures.0
       c.in_ok-front_at.field-0.now c.in_ok-front_at.ensures c.copy-receiver.result
       (stands_there c.as_slice.result.now v.nodes c.in_ok-link.link.receiver c.copy-receiver.result
-      c.index-as_slice-receiver.result c.copy-receiver.ensures c.index-as_slice-receiver.is c.as_slice.ensures.nodes)
+      c.index-as_slice-link.result c.copy-receiver.ensures c.index-as_slice-link.is c.as_slice.ensures.nodes)
 
   sent_by : c.copy-sender.result ≡ c.in_ok-front_at.field-0.now.sender
   sent_by = c.copy-sender.ensures ∙ ap (λ (s : SentLetter). s.sender) c.branch.view_is

@@ -21,8 +21,8 @@ returns-in-Some c =
     let l = link_there _ c.self.invariant c.args.self.now c.self.view_is c.args.link c.args.name.now c.args.receiver.now c.requires in
     record {
       first = found_first c.args.self.now s c.args.name.now c.args.receiver.now (from_of c.args.link c.self.inside.mesh)
-          (to_of c.args.link c.self.inside.mesh) c.copy-in-Some.result c.in-Some.oldest.now l.1 l.2
-          (c.copy-in-Some.ensures ∙ ap (λ (s : SentLetter). s.sender) c.oldest.view_is)
+          (to_of c.args.link c.self.inside.mesh) c.copy.result c.in-Some.oldest.now l.1 l.2
+          (c.copy.ensures ∙ ap (λ (s : SentLetter). s.sender) c.oldest.view_is)
           (known_place c.args.self.now.nodes c.args.receiver.now c.args.link.receiver c.requires.receiver)
           (c.in-Some.ensures
           ∙ ap (λ (h : Mailed). slice_get ((seen h.mesh).queue (from_of c.args.link c.self.inside.mesh)
