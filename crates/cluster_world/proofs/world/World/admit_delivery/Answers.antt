@@ -12,7 +12,7 @@ returns-in_default-clause-refused g c = elim c.in_default.branch [
       c.args.sender.now c.args.receiver.now c.place_of-2.ensures.first w.in_default.ensures'.place
   | in_default-via-in_default w ↦
       refuses_sender c.args.self.now (subst IsWhole c.self.view_is c.self.invariant) c.place_of.ensures.left
-      c.args.sender.now c.args.receiver.now c.place_of.ensures.first w.in_default.ensures.place
+      c.args.sender.now c.args.receiver.now c.place_of.ensures.first w.in_default.ensures-1.place
 ]
 
 pub first_sender-requires : goal.first_sender-requires
@@ -43,15 +43,15 @@ returns-in-Some-clause-event g c =
       receiver = c.copy.result;
     }) refl c.copy.ensures c.in-Some-Some.ensures.place c.in-Some.ensures.first
 
-pub returns-then-has_left-clause-refused : goal.returns-then-has_left-clause-refused
-returns-then-has_left-clause-refused g c =
+pub returns-in-None-clause-refused : goal.returns-in-None-clause-refused
+returns-in-None-clause-refused g c =
     refuses_found_left _ c.args.self.now c.self.view_is c.self.invariant c.args.sender.now c.args.receiver.now c.in-Some-Some.to
     c.in-Some-Some.ensures'.place c.index.result.now c.index.ensures c.node-node.result.now c.node-node.ensures.name
     c.place_of.ensures.left c.in-Some-Some.from c.in-Some-Some.ensures.place c.first_sender.result c.first_sender.ensures.first
     c.in-None.is (sym c.has_left.ensures ∙ c.if-has_left.true)
 
-pub returns-in-None-clause-refused : goal.returns-in-None-clause-refused
-returns-in-None-clause-refused g c =
+pub returns-in-None-2-clause-refused : goal.returns-in-None-2-clause-refused
+returns-in-None-2-clause-refused g c =
     refuses_found_empty _ c.args.self.now c.self.view_is c.self.invariant c.args.sender.now c.args.receiver.now c.in-Some-Some.to
     c.in-Some-Some.ensures'.place c.index.result.now c.index.ensures c.node-node.result.now c.node-node.ensures.name
     c.place_of.ensures.left c.in-Some-Some.from c.in-Some-Some.ensures.place c.first_sender.result c.first_sender.ensures.first

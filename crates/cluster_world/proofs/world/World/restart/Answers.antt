@@ -42,7 +42,7 @@ pub come_back-core-requires-clause-known : goal.come_back-core-requires-clause-k
 come_back-core-requires-clause-known g c =
     next_known c.args.self.now _ c.self.view_is c.self.invariant c.enter_restart.ensures.left c.args.comeback
     c.requires
-    c.nodes-2.result.now (c.nodes-2.ensures.nodes ∙
+    c.nodes.result.now (c.nodes.ensures.nodes ∙
     (c.reopen.ensures.nodes ∙ ap (succeeded c.args.comeback.older c.args.comeback.next) c.enter_restart.ensures.nodes))
 
 pub come_back-core-requires-clause-stays : goal.come_back-core-requires-clause-stays
@@ -91,9 +91,9 @@ module _ (g : Over) (c : goal.After-self-2-1 g) where
 pub invariant_of-self-2 : goal.invariant_of-self-2
 invariant_of-self-2 g c =
     restarted_whole c.args.self.now _ c.self.view_is c.self.invariant c.enter_restart.ensures.left c.args.comeback
-    c.requires c.departed.result.now c.departed-2.result.now c.nodes-2.result.now
+    c.requires c.departed.result.now c.departed-2.result.now c.nodes.result.now
     c.as_mut_slice-2.result.now _ _ c.reopen.new.self c.enter_restart.new.history.entries c.come_back-core.result
-    (c.departed.ensures.departed ∙ left g c) (c.departed-2.ensures.departed ∙ left g c) (c.nodes-2.ensures.nodes ∙ later g c)
+    (c.departed.ensures.departed ∙ left g c) (c.departed-2.ensures.departed ∙ left g c) (c.nodes.ensures.nodes ∙ later g c)
     (took g c)
     c.come_back-core.ensures (slice_put c.departed.result.now (older g c) (next g c) c.self.inside.cores.len c.args.comeback.place
     c.self.inside.cores.items
@@ -104,9 +104,9 @@ invariant_of-self-2 g c =
 pub returns-clause-ok : goal.returns-clause-ok
 returns-clause-ok g c =
     restarted_played c.args.self.now _ c.self.view_is c.self.invariant c.enter_restart.ensures.left c.args.comeback
-    c.requires c.departed.result.now c.departed-2.result.now c.nodes-2.result.now
+    c.requires c.departed.result.now c.departed-2.result.now c.nodes.result.now
     c.as_mut_slice-2.result.now _ _ c.reopen.new.self c.enter_restart.new.history.entries c.come_back-core.result
-    (c.departed.ensures.departed ∙ left g c) (c.departed-2.ensures.departed ∙ left g c) (c.nodes-2.ensures.nodes ∙ later g c)
+    (c.departed.ensures.departed ∙ left g c) (c.departed-2.ensures.departed ∙ left g c) (c.nodes.ensures.nodes ∙ later g c)
     (took g c)
     c.come_back-core.ensures (slice_put c.departed.result.now (older g c) (next g c) c.self.inside.cores.len c.args.comeback.place
     c.self.inside.cores.items
