@@ -8,8 +8,13 @@ use Rattle.cluster_world.proofs.mail.Mail.first_on_mesh.Goals as goal
 
 pub bounds-as_slice-link : goal.bounds-as_slice-link
 bounds-as_slice-link c =
-    omega (arith, c.in_ok-link.ensures.0.1, ap (λ (ns : List ℕ). length ns) c.self.invariant.names,
-    length-map c.self.inside.nodes name_of, ap (λ (ns : List ℕ). length ns) c.as_slice.ensures.nodes)
+    omega (
+      arith,
+      c.in_ok-link.ensures.0.1,
+      ap (λ (ns : List ℕ). length ns) c.self.invariant.names,
+      length-map c.self.inside.nodes name_of,
+      ap (λ (ns : List ℕ). length ns) c.as_slice.ensures.nodes,
+    )
 
 -- the link of the letter that stands first
 module _ (c : goal.After-copy-receiver) where
