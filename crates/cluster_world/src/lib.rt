@@ -16,7 +16,7 @@ pub use seat::{SeatFault, WorldSeat};
 pub use settle::Interrupted;
 pub use world::World;
 pub use world_events::{
-    Answer, Call, CoreEvent, Event, Letter, Look, NameCall, NameList, NodeCore, Nodes, Notice,
-    NoticeList, Opening, Refusal, Reply, Retries, StartFault, StepFault, WorldEvent,
+    Answer, Call, Event, Letter, Look, NameCall, NameList, NodeCore, Nodes, Notice, NoticeList,
+    Opening, Refusal, Reply, Retries, StartFault, StepFault, WorldEvent,
 };
 pub use world_history::{HistoryEntry, KeptEntry};
