@@ -13,6 +13,7 @@ use Rattle.arguments.specs.declared.faults.OptionFault.{OptionFault}
 use Rattle.arguments.specs.declared.task.ServeOptions.{ServeOptions}
 use Rattle.arguments.specs.declared.task.Task.{Task}
 use Rattle.arguments.specs.declared.task.Task.TheVariants.{Script, Serve}
+use Rattle.term.specs.declared.limits.TheConstants.{CONSOLES, CONSOLES_AT_ONCE}
 
 -- the value of each option, by its name
 abbrev pub Values : Type 0
@@ -29,8 +30,8 @@ Counts most digits n = (1 ≤ n) × (n ≤ most) × (n ≡ digits_value 10 (with
 
 -- how many consoles are taken, or served at once where it stays: the number that is given, from 1 to 64; and where none is, 8, or 64 at once
 abbrev pub CountsConsoles : Bool → Option Bytes → ℕ → Type 0
-CountsConsoles stay None n = n ≡ (if stay then 64 else 8)
-CountsConsoles stay (Some digits) n = Counts 64 digits n
+CountsConsoles stay None n = n ≡ (if stay then CONSOLES_AT_ONCE else CONSOLES)
+CountsConsoles stay (Some digits) n = Counts CONSOLES_AT_ONCE digits n
 
 -- for how many seconds a console may be silent: the number that is given, from 1 to 31,536,000; and where none is, for ever
 abbrev pub CountsSeconds : Option Bytes → Option ℕ → Type 0

@@ -10,12 +10,7 @@ use crate::nodes::read_nodes;
 use crate::task::{ServeOptions, Task};
 use clap::ArgMatches;
 use std::alloc::{AllocError, Global};
-
-/// How many consoles are taken where the words don't tell.
-const CONSOLES: u8 = 8;
-
-/// How many consoles are served at once where a server stays and the words don't tell: as many as there are seats.
-const CONSOLES_AT_ONCE: u8 = 64;
+use term::{CONSOLES, CONSOLES_AT_ONCE};
 
 /// How many consoles are taken, or served at once where it stays, where the words don't tell.
 fn untold_consoles(stay: bool) -> u8

@@ -1,7 +1,7 @@
 //! Consoles at seats.
 ghost use Rattle.std.specs.Prelude.{◌≡◌, false, true, IfErr, IfNone, IfOk, IfSome, MatchOption, MatchResult};
 ghost use Rattle.std.specs.Io.Buffered.{reader_remaining};
-ghost use Rattle.text_lines.specs.Lines.{most_lines};
+ghost use Rattle.term.specs.declared.limits.TheConstants.{MOST_LINES};
 ghost use Rattle.node_seats.specs.Callers.{IsEnd};
 ghost use Rattle.node_seats.specs.Faults.{IsUnmade};
 ghost use Rattle.node_seats.specs.Fences.{fence_of};
@@ -30,8 +30,8 @@ use std::io::{BufReader, Read, Write};
 use std::sync::Wait;
 use std::thread;
 use std::time::{Clock, Duration};
-use term::{Name, Node, Pid};
-use text_lines::{MOST_LINES, StreamFault};
+use term::{MOST_LINES, Name, Node, Pid};
+use text_lines::StreamFault;
 
 /// How many lines a console of a server that stays may have: more than come.
 const MOST_STAYING: u64 = u64::MAX;
@@ -482,10 +482,10 @@ pub fn serve<R: Read, W: Write, H: Wait + Clock>(
 ) -> Result<Transcript, (StreamFault, Transcript)>
     ensures { MatchResult result
         (λ transcript. (t : Sitting) × IsTranscript t transcript
-        × Serves SeatAnswers SeatStands false most_lines (reader_remaining R.remaining reader.old) (reader_remaining R.remaining reader.new)
+        × Serves SeatAnswers SeatStands false MOST_LINES (reader_remaining R.remaining reader.old) (reader_remaining R.remaining reader.new)
         (W.contents writer.old) (W.contents writer.new) seat t)
         (λ ended. (t : Sitting) × IsTranscript t ended.1
-        × Stops SeatAnswers SeatStands false most_lines (reader_remaining R.remaining reader.old) (reader_remaining R.remaining reader.new)
+        × Stops SeatAnswers SeatStands false MOST_LINES (reader_remaining R.remaining reader.old) (reader_remaining R.remaining reader.new)
         (W.contents writer.old) (W.contents writer.new) seat t ended.0) }
 {
     let most = u64::from(MOST_LINES);

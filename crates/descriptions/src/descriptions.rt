@@ -7,10 +7,7 @@ ghost use Rattle.descriptions.specs.Tables.{RefusesMore, lacks_place, process_cm
 use crate::description::Description;
 use std::alloc::Global;
 use std::collections::BTreeMap;
-use term::{Node, Pid};
-
-/// How many processes may be described at once.
-pub const MOST_DESCRIPTIONS: usize = 65_536;
+use term::{MOST_DESCRIPTIONS, Node, Pid};
 
 /// Why a process isn't described.
 #[derive(Clone, Copy, Debug, PartialEq, Eq)]

@@ -13,6 +13,7 @@ use Rattle.node_loop.specs.declared.item.Item.{Item}
 use Rattle.node_loop.specs.declared.item.Item.TheVariants.{Letter as LetterItem}
 use Rattle.node_loop.specs.declared.edit.Owed.{Owed}
 use Rattle.node_loop.specs.Desks.{Kept, first_leave}
+use Rattle.term.specs.declared.limits.TheConstants.{MOST_TURNS}
 
 -- what the log of a node says, whatever room it has
 pub record Written : Type 0 where
@@ -41,10 +42,6 @@ has_retry l = not l.left && can_retry (node_of l.core)
 -- and gives way to rivals no longer
 abbrev pub is_due : Looping → Bool
 is_due l = has_retry l && (l.wait == 0)
-
--- it gives way for so many turns that read no letter at most
-abbrev pub most_turns : ℕ
-most_turns = 1024
 
 -- a leave waits
 abbrev pub has_leave : Looping → Bool

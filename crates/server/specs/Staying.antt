@@ -17,6 +17,7 @@ use Rattle.node_threads.specs.Ending.{EndIs}
 use Rattle.text_lines.specs.Writing.{AppendsPart}
 use Rattle.server.specs.declared.faults.StayFault.{StayFault}
 use Rattle.server.specs.declared.faults.StayFault.TheVariants.{Start, Write, Memory}
+use Rattle.server.specs.declared.staying.staff.TheConstants.{ENTRANCES}
 use Rattle.server.specs.declared.staying.staff.Posted.{Posted}
 use Rattle.server.specs.Ending.{closed_line}
 
@@ -49,9 +50,9 @@ pub record Reseats (c d : Crewed) : Type 0 where
 abbrev pub AreAll : List ℕ → Crewed → Type 0
 AreAll nodes c = (n : ℕ) → set_of nodes n ≡ set_of (nodes_in c) n
 
--- how many workers a server has that has places for so many consoles: sixteen more, as far as they can be counted
+-- how many workers a server has that has places for so many consoles: some more, as far as they can be counted
 abbrev pub workers_for : ℕ → ℕ
-workers_for consoles = min (consoles + 16) 4294967295
+workers_for consoles = min (consoles + ENTRANCES) 4294967295
 
 -- the threads of a server, by the nodes that each was started for
 abbrev pub Crew : Type 0

@@ -10,6 +10,7 @@ ghost use Rattle.term.specs.Spelling.{is_allowed as is_allowed_byte, IsFirstBad,
 ghost use Rattle.term.specs.Keys.{key_of as any_key};
 
 use crate::faults::TextFault;
+use crate::limits::LONGEST_TEXT;
 use arrayvec::ArrayString;
 use std::alloc::AllocError;
 use std::cmp::Ordering;
@@ -25,7 +26,7 @@ const KEY_BYTES: usize = 8;
 pub(crate) struct ShortText {
     /// The first bytes as one number: most texts that differ differ in it, and it is compared before they are.
     key: u64,
-    bytes: ArrayString<64>,
+    bytes: ArrayString<LONGEST_TEXT>,
 }
 
 impl Model for ShortText {
