@@ -97,13 +97,7 @@ impl ArgFault {
     {
         match self {
             ArgFault::Words(_) | ArgFault::Options(_) => None,
-            ArgFault::Text(TextFault::Empty) => Some("empty"),
-            ArgFault::Text(TextFault::TooLong) => Some("too_long"),
-            ArgFault::Text(TextFault::BadByte(_)) => Some("bad_byte"),
-            ArgFault::Text(TextFault::BadCreation) => Some("bad_creation"),
-            ArgFault::Text(TextFault::BadSerial) => Some("bad_serial"),
-            ArgFault::Text(TextFault::BadRule) => Some("bad_rule"),
-            ArgFault::Text(TextFault::TooManyNodes) => Some("too_many_nodes"),
+            ArgFault::Text(fault) => Some(fault.word()),
             ArgFault::SameNode => Some("same_node"),
             ArgFault::TooManyNodes => Some("too_many_nodes"),
         }

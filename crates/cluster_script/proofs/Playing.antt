@@ -20,7 +20,8 @@ use Rattle.command_lines.specs.declared.faults.LineFault.TheVariants.{Memory}
 use Rattle.text_lines.specs.declared.faults.WriteFault.{WriteFault}
 use Rattle.text_lines.specs.Writing.{AppendsPart, Writes}
 use Rattle.command_lines.specs.Grammar.{ScriptLine, Scripted}
-use Rattle.command_lines.specs.Printing.{answers_text, output_line, shown_text, error_line, word_of, word_for, refusal_word, is_fine, Shown, Shows}
+use Rattle.command_lines.specs.NodeEventsWords.{word_for, refusal_word}
+use Rattle.command_lines.specs.Printing.{answers_text, output_line, shown_text, error_line, word_of, is_fine, Shown, Shows}
 use Rattle.cluster_script.specs.Script.{Plays, Fails, shown}
 use Rattle.cluster_script.specs.Played.{PlaysLine, PlaysAsked, okay_text, shown_on}
 

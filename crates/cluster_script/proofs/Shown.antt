@@ -17,7 +17,8 @@ use Rattle.cluster_world.specs.NamedScript.{shown_at}
 use Rattle.cluster_world.specs.Held.{Held, nodes_of as nodes_in}
 use Rattle.cluster_world.specs.Seen.{names_of, named}
 use Rattle.command_lines.specs.Grammar.{Scripted}
-use Rattle.command_lines.specs.Printing.{output_line, error_line, refusal_word, is_fine, is_fine_output, shown_text, Shown, Shows}
+use Rattle.command_lines.specs.NodeEventsWords.{refusal_word}
+use Rattle.command_lines.specs.Printing.{output_line, error_line, is_fine, is_fine_output, shown_text, Shown, Shows}
 use Rattle.text_lines.specs.declared.faults.WriteFault.{WriteFault}
 use Rattle.text_lines.specs.Writing.{AppendsPart, Writes}
 use Rattle.cluster_script.specs.Script.{Plays, shown, behind, made_of}

@@ -23,7 +23,8 @@ use Rattle.text_lines.specs.declared.faults.WriteFault.{WriteFault}
 use Rattle.text_lines.specs.declared.lines.Line.{Line}
 use Rattle.text_lines.specs.Lines.{spoken, count_of_all, IsKept, LosesLines, LosesInto, HasNoLine, MayEndIn, GoesPastFor}
 use Rattle.command_lines.specs.Grammar.{ScriptLine, Scripted, Finish}
-use Rattle.command_lines.specs.Printing.{Shows, shown_text, is_fine, is_fine_output, output_line, error_line, refusal_word, word_of}
+use Rattle.command_lines.specs.NodeEventsWords.{refusal_word}
+use Rattle.command_lines.specs.Printing.{Shows, shown_text, is_fine, is_fine_output, output_line, error_line, word_of}
 use Rattle.text_lines.specs.Writing.{AppendsPart, Growth}
 use Rattle.cluster_script.specs.Script.{Outcome, Plays, Fails, Breaks, Finishes, ComesTo, AllComeTo, settle_limit, behind, behind_all, shown, shown_all}
 

@@ -23,7 +23,8 @@ use crate::looking::{node_at, show_members, show_table};
 use crate::reading::next_line;
 use crate::refusing::refuse_memory;
 use command_lines::{
-    Answer, Event, LineFault, Task, WorldEvent, answer_line, read_task, refusal_line, started_line,
+    Answer, Event, LineFault, Refusal, Task, WorldEvent, answer_line, read_task, started_line,
+    write_refusal,
 };
 use std::alloc::Global;
 use std::io::{BufReader, Read, Write};
@@ -96,7 +97,7 @@ fn play_event<W: Write>(
             Ok(true)
         }
         Err(refusal) => {
-            write_text(writer, refusal_line(&refusal).as_bytes())?;
+            write_refusal(writer, refusal.word())?;
             Ok(false)
         }
     }
@@ -114,7 +115,7 @@ fn play_at<W: Write>(
         (W.contents writer.old) (W.contents writer.new) result }
 {
     let Some(node) = node_at(world, name) else {
-        write_text(writer, b"error no_such_node\n")?;
+        write_refusal(writer, Refusal::NoSuchNode.word())?;
         return Ok(false);
     };
     let event = WorldEvent::At(node.copy(), event);
@@ -129,7 +130,7 @@ fn end_settle<W: Write>(writer: &mut W, is_settled: bool) -> Result<bool, WriteF
     if is_settled {
         write_text(writer, b"settled\n")?;
     } else {
-        write_text(writer, b"error settle_limit\n")?;
+        write_refusal(writer, "settle_limit")?;
     }
     Ok(is_settled)
 }
@@ -213,7 +214,7 @@ fn play_task<W: Write>(
     match task {
         Ok(task) => play_asked(alloc, writer, world, task),
         Err(fault) => {
-            write_text(writer, fault.line().as_bytes())?;
+            write_refusal(writer, fault.word())?;
             Ok(false)
         }
     }
@@ -315,7 +316,7 @@ pub fn run_script<R: Read, W: Write>(
         }
         Headers::Ended => Ok(true),
         Headers::Refused(fault) => {
-            write_text(writer, fault.line().as_bytes())?;
+            write_refusal(writer, fault.word())?;
             Ok(false)
         }
     }

@@ -8,7 +8,8 @@ use Rattle.node_seats.specs.declared.fault.SeatFault.{SeatFault}
 use Rattle.console.specs.declared.describing.DescribeFault.{DescribeFault}
 use Rattle.console.specs.declared.describing.DescribeFault.TheVariants.{Seat, TooMany}
 use Rattle.console.specs.declared.status.Status.{Status}
-use Rattle.console.specs.Outcomes.{outcome_text, seat_word}
+use Rattle.node_seats.specs.Faults.{seat_word}
+use Rattle.console.specs.Outcomes.{outcome_text}
 
 -- what may be told of a node and its server: how they stand; what was said of a process; and what came of saying this of it
 pub data Fact : Type 0 where

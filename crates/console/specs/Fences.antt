@@ -3,7 +3,7 @@ use Rattle.std.specs.Prelude.{ℕ, codes, List, ◌++◌, Option, Some, None, Re
 use Rattle.std.specs.Fmt.{decimal}
 use Rattle.command_lines.specs.Printing.{ended, error_line}
 use Rattle.node_seats.specs.declared.fault.SeatFault.{SeatFault}
-use Rattle.console.specs.Outcomes.{seat_word}
+use Rattle.node_seats.specs.Faults.{seat_word}
 use Rattle.console.specs.declared.status.Status.{Status}
 
 -- the line of its number, or of there being none

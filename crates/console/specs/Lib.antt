@@ -1,4 +1,5 @@
 pub use Rattle.command_lines.specs.Printing
+pub use Rattle.node_seats.specs.Faults as SeatFaults
 pub mod Cookies
 pub mod Faults
 pub mod Clients

@@ -7,7 +7,7 @@ use Rattle.command_lines.specs.Printing.{ended, error_line}
 use Rattle.node_seats.specs.declared.Numbers.{Numbers}
 use Rattle.node_seats.specs.declared.told.NodeStatus.{NodeStatus}
 use Rattle.node_seats.specs.declared.fault.SeatFault.{SeatFault}
-use Rattle.console.specs.Outcomes.{seat_word}
+use Rattle.node_seats.specs.Faults.{seat_word}
 use Rattle.console.specs.declared.status.Load.{Load}
 use Rattle.console.specs.declared.status.Status.{Status}
 

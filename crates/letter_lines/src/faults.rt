@@ -40,13 +40,7 @@ impl LetterFault {
     {
         match self {
             LetterFault::BadLine => "bad_line",
-            LetterFault::Text(TextFault::Empty) => "empty",
-            LetterFault::Text(TextFault::TooLong) => "too_long",
-            LetterFault::Text(TextFault::BadByte(_)) => "bad_byte",
-            LetterFault::Text(TextFault::BadCreation) => "bad_creation",
-            LetterFault::Text(TextFault::BadSerial) => "bad_serial",
-            LetterFault::Text(TextFault::BadRule) => "bad_rule",
-            LetterFault::Text(TextFault::TooManyNodes) => "too_many_nodes",
+            LetterFault::Text(fault) => fault.word(),
             LetterFault::Memory => "memory",
         }
     }

@@ -1,6 +1,7 @@
 pub use Rattle.node_events.specs.Letters
 pub use Rattle.node_events.specs.Made
 pub use Rattle.node_events.specs.Seen as NodeEventsSeen
+pub use Rattle.node_events.specs.Words as NodeEventsWords
 pub mod Held
 pub mod Seen
 pub mod Steps

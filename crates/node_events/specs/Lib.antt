@@ -1,3 +1,4 @@
 pub mod Letters
 pub mod Made
 pub mod Seen
+pub mod Words

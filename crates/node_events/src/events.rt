@@ -224,43 +224,56 @@ pub enum Entry {
 
 /// Why a node doesn't take a step.
 #[derive(Clone, Debug, PartialEq, Eq, Error, Drop)]
+#[error("{}", self.word())]
 pub enum StepFault {
     /// The holder of a lock call is no live process of this node.
-    #[error("not_live")]
     NotLive(Pid),
     /// The process has a lock call that isn't answered.
-    #[error("busy")]
     Busy(Pid),
     /// The resource `global` is the registry's own.
-    #[error("reserved")]
     Reserved,
     /// A named node is no member.
-    #[error("unknown_node")]
     UnknownNode,
     /// The node is joined, or has a join that isn't answered.
-    #[error("already_joined")]
     AlreadyJoined,
     /// The process is another node's, or its serial wasn't given.
-    #[error("no_such_process")]
     NoSuchProcess,
     /// The process is dead already.
-    #[error("already_exited")]
     AlreadyExited,
     /// The node has given its last serial, 4,294,967,295.
-    #[error("serials_spent")]
     SerialsSpent,
     /// No refused round waits.
-    #[error("nothing_to_retry")]
     NothingToRetry,
     /// The node holds the global lock.
-    #[error("holds_lock")]
     HoldsLock,
     /// The node has given its last number of a call, 4,294,967,295.
-    #[error("calls_spent")]
     CallsSpent,
     /// Memory was refused. The node is as before, as the protocol sees it, and the step may be taken again.
-    #[error("memory")]
     Memory,
+}
+
+impl StepFault {
+    ghost use Rattle.node_events.specs.Words.{step_word};
+
+    /// The word for it: by it lines tell of a refusal, and its own text is no other.
+    pub fn word(&self) -> &'static str
+        ensures { result.now ≡ step_word self.now }
+    {
+        match self {
+            StepFault::NotLive(_) => "not_live",
+            StepFault::Busy(_) => "busy",
+            StepFault::Reserved => "reserved",
+            StepFault::UnknownNode => "unknown_node",
+            StepFault::AlreadyJoined => "already_joined",
+            StepFault::NoSuchProcess => "no_such_process",
+            StepFault::AlreadyExited => "already_exited",
+            StepFault::SerialsSpent => "serials_spent",
+            StepFault::NothingToRetry => "nothing_to_retry",
+            StepFault::HoldsLock => "holds_lock",
+            StepFault::CallsSpent => "calls_spent",
+            StepFault::Memory => "memory",
+        }
+    }
 }
 
 impl From<AllocError> for StepFault {

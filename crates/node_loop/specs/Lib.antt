@@ -4,6 +4,7 @@ pub use Rattle.closings.specs.Guarded
 pub use Rattle.node_log.specs.NodeCoreHeld
 pub use Rattle.node_log.specs.NodeCoreSeen
 pub use Rattle.node_log.specs.NodeEventsSeen
+pub use Rattle.node_log.specs.NodeEventsWords
 pub use Rattle.node_log.specs.Openings
 pub mod Told
 pub mod Waiting

@@ -10,7 +10,7 @@ use Rattle.text_lines.specs.Writing.{AppendsPart}
 use Rattle.text_lines.specs.declared.faults.StreamFault.{StreamFault}
 use Rattle.console.specs.Consoles.{Serves, Stops}
 use Rattle.console.specs.Greetings.{Greets, GreetStops}
-use Rattle.console.specs.Outcomes.{seat_word}
+use Rattle.console.specs.SeatFaults.{seat_word}
 use Rattle.console.specs.Seats.{SeatAnswers, SeatStands, IsTranscript}
 use Rattle.server.specs.declared.served.Left.{Left}
 use Rattle.server.specs.declared.served.Left.TheVariants.{Served, Unserved}

@@ -6,3 +6,4 @@ pub mod NodeSets
 pub mod Nodes
 pub mod Rules
 pub mod Spelling
+pub mod Words

@@ -2,8 +2,10 @@ pub use Rattle.node_core.specs.Causes as NodeCoreCauses
 pub use Rattle.node_core.specs.Held as NodeCoreHeld
 pub use Rattle.node_core.specs.Made as NodeCoreMade
 pub use Rattle.node_core.specs.NodeEventsSeen
+pub use Rattle.node_core.specs.NodeEventsWords
 pub use Rattle.node_core.specs.Seen as NodeCoreSeen
 pub use Rattle.node_core.specs.Steps as NodeCoreSteps
 pub mod Events
 pub mod Refusals
 pub mod Openings
+pub mod Words

@@ -15,19 +15,32 @@ use thiserror::Error;
 
 /// Why a world isn't started, in the order in which the causes are looked for.
 #[derive(Clone, Copy, Debug, PartialEq, Eq, Error)]
+#[error("{}", self.word())]
 pub enum StartFault {
     /// The cluster has no node.
-    #[error("no_node")]
     NoNode,
     /// A node is named twice, among those of the cluster and the lone ones.
-    #[error("same_node")]
     SameNode,
     /// There are more nodes than a world may have, which is eight.
-    #[error("too_many_nodes")]
     TooManyNodes,
     /// Memory was refused.
-    #[error("memory")]
     Memory,
+}
+
+impl StartFault {
+    ghost use Rattle.world_events.specs.Words.{start_word};
+
+    /// The word for it: by it lines tell of a refusal, and its own text is no other.
+    pub fn word(&self) -> &'static str
+        ensures { result.now ≡ start_word self.now }
+    {
+        match self {
+            StartFault::NoNode => "no_node",
+            StartFault::SameNode => "same_node",
+            StartFault::TooManyNodes => "too_many_nodes",
+            StartFault::Memory => "memory",
+        }
+    }
 }
 
 impl From<AllocError> for StartFault {

@@ -10,29 +10,43 @@ use thiserror::Error;
 
 /// Why an event is refused, in the order in which the causes are looked for.
 #[derive(Clone, Debug, PartialEq, Eq, Error, Drop)]
+#[error("{}", self.word())]
 pub enum Refusal {
     /// A node of the event isn't of this world.
-    #[error("no_such_node")]
     NoSuchNode,
     /// The node of the event, or the receiver of a delivery, has left.
-    #[error("node_left")]
     NodeLeft,
     /// Nothing is on the link.
-    #[error("empty_link")]
     EmptyLink,
     /// The present node of the name that is to come back hasn't left.
-    #[error("still_running")]
     StillRunning,
     /// It has left, and a running node, of which this is the least, wasn't told so yet.
-    #[error("not_told_yet")]
     NotToldYet(Node),
     /// It was the last node that this name can have.
-    #[error("creations_spent")]
     CreationsSpent,
     /// The node doesn't take the step; or memory was refused, there, on the links or for the history. Either way nothing has
     /// happened, and where memory was refused the event may be played again later.
-    #[error("{0}")]
     Step(StepFault),
+}
+
+impl Refusal {
+    ghost use Rattle.node_core.specs.NodeEventsWords.{word_for};
+    ghost use Rattle.world_events.specs.Refusals.{refusal_of};
+
+    /// The word for it: by it lines tell of a refusal, and its own text is no other.
+    pub fn word(&self) -> &'static str
+        ensures { result.now ≡ word_for (refusal_of self.now) }
+    {
+        match self {
+            Refusal::NoSuchNode => "no_such_node",
+            Refusal::NodeLeft => "node_left",
+            Refusal::EmptyLink => "empty_link",
+            Refusal::StillRunning => "still_running",
+            Refusal::NotToldYet(_) => "not_told_yet",
+            Refusal::CreationsSpent => "creations_spent",
+            Refusal::Step(fault) => fault.word(),
+        }
+    }
 }
 
 impl From<AllocError> for Refusal {
