@@ -27,7 +27,7 @@ use Rattle.arguments.specs.Reading.{Asks, AsksIn, HasOptions, IsFlagText, IsLook
 use Rattle.arguments.specs.CommandLine.{Entered}
 use Rattle.arguments.specs.declared.faults.ArgFault.{ArgFault}
 use Rattle.arguments.specs.declared.faults.ArgFault.TheVariants as fault
-use Rattle.arguments.specs.declared.task.Task.{Task}
+use Rattle.arguments.specs.declared.task.Job.{Job}
 use Rattle.arguments.proofs.Taken.{AllRows, HasFineRules, IsFine, StopsFine, find_row, level_rows, nil_both, one_value, row_with, walk_stops}
 
 -- ---- the options of `serve`
@@ -285,20 +285,20 @@ looked words none =
     entered_one stop fine below.0 (is_entered (is_some (entered a stop)) checking.1)
 
 -- options that are refused, by the subcommand that they are of
-pub refused_in : (entered : Entered) (rows : List Row) (r : Result Task ArgFault) (f : ArgFault) → entered ≡ Some (codes "serve", rows)
+pub refused_in : (entered : Entered) (rows : List Row) (r : Result Job ArgFault) (f : ArgFault) → entered ≡ Some (codes "serve", rows)
     → IsErrAnd r (λ y. y ≡ f) → RefusesValues (λ id. first_of id rows) f → MatchResult r (AsksIn entered) (RefusesIn entered)
 refused_in entered rows (Ok t) f same is h = absurd is
 refused_in entered rows (Err y) f same is h =
     subst (λ (e : Entered). RefusesIn e y) (sym same) (refl, subst (RefusesValues (λ id. first_of id rows)) (sym is) h)
 
 -- words that clap refuses
-pub refused_by : (words : List Text) (r : Result Task ArgFault) (e : Error) → IsErrAnd r (λ y. y ≡ fault.Words e) → HasKind (refusals words) e
+pub refused_by : (words : List Text) (r : Result Job ArgFault) (e : Error) → IsErrAnd r (λ y. y ≡ fault.Words e) → HasKind (refusals words) e
     → MatchResult r (Asks words) (Refuses words)
 refused_by words (Ok t) e is h = absurd is
 refused_by words (Err y) e is h = subst (Refuses words) (sym is) h
 
 -- what the words ask for, by what they name
-pub asked_by : (words : List Text) (e : Entered) (r : Result Task ArgFault) → e ≡ subcommand_of program words → refusals words ≡ []
+pub asked_by : (words : List Text) (e : Entered) (r : Result Job ArgFault) → e ≡ subcommand_of program words → refusals words ≡ []
     → MatchResult r (AsksIn e) (RefusesIn e) → MatchResult r (Asks words) (Refuses words)
 asked_by words e (Ok t) is none h = record { taken = none; asked = subst (λ (x : Entered). AsksIn x t) is h }
 asked_by words e (Err (fault.Words x)) is none h = inl h.1

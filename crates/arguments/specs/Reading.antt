@@ -11,8 +11,8 @@ use Rattle.arguments.specs.declared.faults.ArgFault.{ArgFault}
 use Rattle.arguments.specs.declared.faults.ArgFault.TheVariants.{Options, Words}
 use Rattle.arguments.specs.declared.faults.OptionFault.{OptionFault}
 use Rattle.arguments.specs.declared.task.ServeOptions.{ServeOptions}
-use Rattle.arguments.specs.declared.task.Task.{Task}
-use Rattle.arguments.specs.declared.task.Task.TheVariants.{Script, Serve}
+use Rattle.arguments.specs.declared.task.Job.{Job}
+use Rattle.arguments.specs.declared.task.Job.TheVariants.{Script, Serve}
 use Rattle.term.specs.declared.limits.TheConstants.{CONSOLES, CONSOLES_AT_ONCE}
 
 -- the value of each option, by its name
@@ -95,7 +95,7 @@ IsLooked entered = (name_in entered ≡ Some (codes "script"))
     ⊎ ((rows : List Row) × (entered ≡ Some (codes "serve", rows)) × HasOptions rows)
 
 -- the subcommand and its options ask for this
-abbrev pub AsksIn : Entered → Task → Type 0
+abbrev pub AsksIn : Entered → Job → Type 0
 AsksIn entered Script = name_in entered ≡ Some (codes "script")
 AsksIn entered (Serve o) = (name_in entered ≡ Some (codes "serve")) × TellsFine (value_in entered) o
 
@@ -104,7 +104,7 @@ abbrev pub RefusesIn : Entered → ArgFault → Type 0
 RefusesIn entered fault = (name_in entered ≡ Some (codes "serve")) × RefusesValues (value_in entered) fault
 
 -- the words, the program's name first, ask for this
-pub record Asks (words : List Bytes) (task : Task) : Type 0 where
+pub record Asks (words : List Bytes) (task : Job) : Type 0 where
   pub taken : refusals words ≡ []
   pub asked : AsksIn (subcommand_of program words) task
 

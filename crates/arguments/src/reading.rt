@@ -7,7 +7,7 @@ ghost use Rattle.arguments.specs.Reading.{Asks, AsksIn, CountsConsoles, CountsSe
 use crate::command_line::command;
 use crate::faults::ArgFault;
 use crate::nodes::read_nodes;
-use crate::task::{ServeOptions, Task};
+use crate::task::{Job, ServeOptions};
 use clap::ArgMatches;
 use std::alloc::{AllocError, Global};
 use term::{CONSOLES, CONSOLES_AT_ONCE};
@@ -86,19 +86,19 @@ fn read_options(alloc: Global, matches: &ArgMatches<'_>) -> Result<ServeOptions,
 }
 
 /// Reads what clap found, which has looked at it before.
-fn read_matches(alloc: Global, matches: &ArgMatches<'_>) -> Result<Task, ArgFault>
+fn read_matches(alloc: Global, matches: &ArgMatches<'_>) -> Result<Job, ArgFault>
     requires { IsLooked (subcommand_rows_of matches.now) }
     ensures { MatchResult result (AsksIn (subcommand_rows_of matches.now)) (RefusesIn (subcommand_rows_of matches.now)) }
 {
     match matches.subcommand() {
-        Some(("serve", options)) => Ok(Task::Serve(read_options(alloc, options)?)),
-        _ => Ok(Task::Script),
+        Some(("serve", options)) => Ok(Job::Serve(read_options(alloc, options)?)),
+        _ => Ok(Job::Script),
     }
 }
 
 /// Reads the words, the first of which is the program's name: what they ask for, or why they are not taken.
 #[tactic(auto, using(crate::proofs::Words::known_words))]
-pub fn read_args(alloc: Global, words: &[String]) -> Result<Task, ArgFault>
+pub fn read_args(alloc: Global, words: &[String]) -> Result<Job, ArgFault>
     ensures task { MatchResult result (Asks (map string_bytes words.now)) (Refuses (map string_bytes words.now)) }
     ensures known { KnownWords }
 {

@@ -10,7 +10,7 @@ const SOCKET: &str = "unix:";
 
 /// What the program is asked for.
 #[derive(Debug, Drop)]
-pub enum Task {
+pub enum Job {
     /// A script from standard input is played.
     Script,
     /// Nodes are run, and consoles are served over the network.

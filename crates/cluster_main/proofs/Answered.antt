@@ -9,7 +9,7 @@ use Rattle.arguments.specs.Reading.{Asks, Refuses, RefusesOptionsOf}
 use Rattle.arguments.specs.declared.faults.ArgFault.{ArgFault}
 use Rattle.arguments.specs.declared.faults.ArgFault.TheVariants.{Options, Words, Text, SameNode, TooManyNodes}
 use Rattle.arguments.specs.declared.task.ServeOptions.{ServeOptions}
-use Rattle.arguments.specs.declared.task.Task.TheVariants.{Serve}
+use Rattle.arguments.specs.declared.task.Job.TheVariants.{Serve}
 use Rattle.cluster_main.specs.Answering.{DoesFor, DoesNothing, DoesTask, Streams, Told}
 use Rattle.cluster_main.specs.Refusing.{IsRefused, IsShown, IsTold, status_for}
 use Rattle.cluster_main.specs.Serving.{Serves, TellsWhy, served_status}

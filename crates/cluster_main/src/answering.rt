@@ -6,7 +6,7 @@ ghost use Rattle.cluster_main.specs.Answering.{Does};
 use crate::playing::play;
 use crate::refusing::refuse;
 use crate::serving::serve;
-use arguments::{Task, read_args};
+use arguments::{Job, read_args};
 use std::alloc::Global;
 use std::fs::Files;
 use std::io::{BufReader, Read, Write};
@@ -45,8 +45,8 @@ where
         return 2;
     };
     match read_args(alloc, words) {
-        Ok(Task::Script) => play(alloc, reader, writer),
-        Ok(Task::Serve(options)) => serve(rt, alloc, &options, writer, errors).status(),
+        Ok(Job::Script) => play(alloc, reader, writer),
+        Ok(Job::Serve(options)) => serve(rt, alloc, &options, writer, errors).status(),
         Err(fault) => refuse(&fault, writer, errors),
     }
 }

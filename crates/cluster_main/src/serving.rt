@@ -12,9 +12,9 @@ use crate::cookies::{CookieFault, read_cookie};
 use crate::journal::Journal;
 use crate::listening::{listen, listening_line};
 use crate::refusing::refuse_value;
-use crate::sockets::{ListenFault, Standing};
+use crate::sockets::{ListenFault, StandingSocket};
 use arguments::ServeOptions;
-use server::{Cookie, Entry, ServeFault, StayFault, StayOptions, run_serve, run_stay};
+use server::{ConsoleListener, Cookie, ServeFault, StayFault, StayOptions, run_serve, run_stay};
 use std::alloc::Global;
 use std::fs::Files;
 use std::io::Write;
@@ -67,7 +67,7 @@ fn stay_options(options: &ServeOptions, cookie: Option<Cookie>) -> StayOptions
 fn stay<H, W, E>(
     rt: &H,
     alloc: Global,
-    entry: Entry,
+    entry: ConsoleListener,
     options: &ServeOptions,
     cookie: Option<Cookie>,
     listening: &str,
@@ -138,7 +138,7 @@ where
 fn serve_telling<H, W, E>(
     rt: &H,
     alloc: Global,
-    entry: Entry,
+    entry: ConsoleListener,
     options: &ServeOptions,
     cookie: Option<Cookie>,
     listening: &str,
@@ -161,8 +161,10 @@ where
         return Served::Stayed(stayed);
     }
     match entry {
-        Entry::Tcp(listener) => serve_so_many(rt, alloc, listener, options, listening, writer),
-        Entry::Unix(_) => unreachable!(),
+        ConsoleListener::Tcp(listener) => {
+            serve_so_many(rt, alloc, listener, options, listening, writer)
+        }
+        ConsoleListener::Unix(_) => unreachable!(),
     }
 }
 
@@ -170,7 +172,7 @@ where
 fn serve_at<H, W, E>(
     rt: &H,
     alloc: Global,
-    entry: Entry,
+    entry: ConsoleListener,
     options: &ServeOptions,
     cookie: Option<Cookie>,
     writer: &mut W,
@@ -240,7 +242,7 @@ where
         Ok(entry) => entry,
         Err(fault) => return not_listening(alloc, options, fault, errors),
     };
-    let socket = options.socket().map(|path| Standing::at(rt, path));
+    let socket = options.socket().map(|path| StandingSocket::at(rt, path));
     let served = serve_at(rt, alloc, entry, options, cookie, writer, errors);
     if let Some(socket) = socket {
         socket.remove(rt);

@@ -170,15 +170,15 @@ fn number_at<R: Files>(rt: &R, path: &str) -> Option<FileNumber> {
 
 /// A socket that is to be removed.
 #[derive(Clone, Copy)]
-pub(crate) struct Standing<'a> {
+pub(crate) struct StandingSocket<'a> {
     path: &'a str,
     number: Option<FileNumber>,
 }
 
-impl<'a> Standing<'a> {
+impl<'a> StandingSocket<'a> {
     /// The socket that stands at a path.
-    pub(crate) fn at<R: Files>(rt: &R, path: &'a str) -> Standing<'a> {
-        Standing {
+    pub(crate) fn at<R: Files>(rt: &R, path: &'a str) -> StandingSocket<'a> {
+        StandingSocket {
             path,
             number: number_at(rt, path),
         }

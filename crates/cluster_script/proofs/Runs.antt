@@ -7,7 +7,7 @@ use Rattle.cluster_world.specs.NodeNames.{NamedOpening}
 use Rattle.cluster_world.specs.NamedWorld.{NamedWorld}
 use Rattle.protocol_model.specs.NamedEvents.{Settle}
 use Rattle.command_lines.specs.Grammar.{ScriptLine, Scripted, Finish}
-use Rattle.cluster_world.specs.Held.{Held}
+use Rattle.cluster_world.specs.Held.{HeldWorld}
 use Rattle.cluster_world.specs.Seen.{names_of, named}
 use Rattle.command_lines.specs.declared.faults.LineFault.{LineFault}
 use Rattle.command_lines.specs.declared.faults.LineFault.TheVariants.{Memory}
@@ -24,7 +24,7 @@ use Rattle.cluster_script.proofs.Agreeing.{lines_agree, lines_leave_nothing}
 use Rattle.cluster_script.specs.Script.{Outcome, Plays, Fails, Breaks, Finishes, ComesTo, AllComeTo, shown_all, Prints, PrintsOn, PrintsSpoken, OpensNone, EndsRefused, Ran, Stopped, StoppedBetween, StoppedWithin, LineOpens, lone_line, played, opening_for}
 use Rattle.cluster_script.specs.Headers.{AllReadAs, OpensHeaders, OpensLone, StopsOpening, asked_first}
 use Rattle.cluster_script.specs.declared.header.Headers.TheVariants.{Open, Ended}
-use Rattle.command_lines.specs.declared.grammar.Task.{Task}
+use Rattle.command_lines.specs.declared.grammar.Instruction.{Instruction}
 use Rattle.cluster_script.specs.Played.{ComesOf, AllComeOf, StopsPlaying, PlaysSome, PlaysAll}
 use Rattle.std.proofs.KnownBytes.{Appends-nil, Appends-trans, Appends-kept}
 use Rattle.text_lines.proofs.Known.{GoesPast-behind, LosesInto-whole, LosesInto-behind, LosesLines-trans, LosesLines-all, MayEndIn-none, spoken-append, count_of_all-append}
@@ -222,8 +222,8 @@ module _ (input rest : Option (List ℕ)) (most left : ℕ) (bound : most ≤ 10
     }
 
   -- the headers open a world, on which the other lines are played
-  module _ (line m cluster : List ℕ) (s : spoken ls ≡ line ∷ m ∷ []) (o : LineOpens line (Ok cluster)) (world : Held)
-      (task : Option (Result Task LineFault)) (q : OpensLone cluster m (Open world task)) (first : List Outcome)
+  module _ (line m cluster : List ℕ) (s : spoken ls ≡ line ∷ m ∷ []) (o : LineOpens line (Ok cluster)) (world : HeldWorld)
+      (task : Option (Result Instruction LineFault)) (q : OpensLone cluster m (Open world task)) (first : List Outcome)
       (came : AllComeOf (asked_first task) first) where
     -- what the lines print
     abbrev text : List Outcome → List Shown
@@ -294,7 +294,7 @@ module _ (input rest : Option (List ℕ)) (most left : ℕ) (bound : most ≤ 10
       Stopped-played fault.Write p n = (StoppedWithin-played p.0, p.1)
       Stopped-played fault.Memory p n = (StoppedWithin-played p.0, p.1)
 
-      pub Ran-played : (new : Held) (left2 : ℕ) (r : Result Bool StreamFault) → most ≡ 1000000
+      pub Ran-played : (new : HeldWorld) (left2 : ℕ) (r : Result Bool StreamFault) → most ≡ 1000000
           → PlaysAll first rest last left left2 world new x b r
           → MatchResult r (Ran input last a b) (Stopped input last a b)
       Ran-played new left2 (Ok fine) n p = record {
@@ -315,7 +315,7 @@ module _ (input rest : Option (List ℕ)) (most left : ℕ) (bound : most ≤ 10
       Ran-played new left2 (Err f) n p = Stopped-played f p n
 
 -- headers that open a world are a `cluster` line and the line behind it
-pub opened_by : (ls : List (List ℕ)) (rest : Option (List ℕ)) (world : Held) (task : Option (Result Task LineFault))
+pub opened_by : (ls : List (List ℕ)) (rest : Option (List ℕ)) (world : HeldWorld) (task : Option (Result Instruction LineFault))
     → OpensHeaders ls rest (Open world task)
     → (line : List ℕ) × (m : List ℕ) × (cluster : List ℕ) × (ls ≡ line ∷ m ∷ []) × LineOpens line (Ok cluster)
     × OpensLone cluster m (Open world task)

@@ -11,7 +11,7 @@ ghost use Rattle.cluster_script.specs.Played.{StopsReading};
 
 use crate::reading::next_line;
 use cluster_world::World;
-use command_lines::{LineFault, StartFault, Task, read_task, text_of};
+use command_lines::{Instruction, LineFault, StartFault, read_task, text_of};
 use name_table::IndexTable;
 use std::alloc::{AllocError, Global};
 use std::io::{BufReader, Read, Write};
@@ -32,7 +32,7 @@ struct Cluster {
 #[derive(Drop)]
 pub(crate) enum Headers {
     /// A world, and what the line behind the `cluster` line asks for, where it is no `lone` line.
-    Open(ScriptWorld, Option<Result<Task, LineFault>>),
+    Open(ScriptWorld, Option<Result<Instruction, LineFault>>),
     /// There is no line behind the `cluster` line.
     Ended,
     /// One is missing or refused.

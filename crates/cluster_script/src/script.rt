@@ -23,8 +23,8 @@ use crate::looking::{node_at, show_members, show_table};
 use crate::reading::next_line;
 use crate::refusing::refuse_memory;
 use command_lines::{
-    Answer, Event, LineFault, Refusal, Task, WorldEvent, answer_line, read_task, started_line,
-    write_refusal,
+    Answer, Event, Instruction, LineFault, Refusal, WorldEvent, answer_line, read_task,
+    started_line, write_refusal,
 };
 use std::alloc::Global;
 use std::io::{BufReader, Read, Write};
@@ -188,17 +188,17 @@ fn play_asked<W: Write>(
     alloc: Global,
     writer: &mut W,
     world: &mut ScriptWorld,
-    task: Task,
+    task: Instruction,
 ) -> Result<bool, WriteFault>
     ensures { PlaysAsked (Ok (line_in task)) world.old world.new (W.contents writer.old) (W.contents writer.new) result }
 {
     match task {
-        Task::Play(event) => play_event(alloc, writer, world, &event),
-        Task::At(name, event) => play_at(alloc, writer, world, &name, event),
-        Task::Settle => settle(alloc, writer, world),
-        Task::Finish => finish(alloc, writer, world),
-        Task::Table(name) => show_table(alloc, writer, world, &name),
-        Task::Members(name) => show_members(alloc, writer, world, &name),
+        Instruction::Play(event) => play_event(alloc, writer, world, &event),
+        Instruction::At(name, event) => play_at(alloc, writer, world, &name, event),
+        Instruction::Settle => settle(alloc, writer, world),
+        Instruction::Finish => finish(alloc, writer, world),
+        Instruction::Table(name) => show_table(alloc, writer, world, &name),
+        Instruction::Members(name) => show_members(alloc, writer, world, &name),
     }
 }
 
@@ -207,7 +207,7 @@ fn play_task<W: Write>(
     alloc: Global,
     writer: &mut W,
     world: &mut ScriptWorld,
-    task: Result<Task, LineFault>,
+    task: Result<Instruction, LineFault>,
 ) -> Result<bool, WriteFault>
     ensures { PlaysAsked (asked_by task) world.old world.new (W.contents writer.old) (W.contents writer.new) result }
 {
@@ -269,7 +269,7 @@ fn play_all<R: Read, W: Write>(
     reader: &mut BufReader<R, Global>,
     writer: &mut W,
     world: &mut ScriptWorld,
-    first: Option<Result<Task, LineFault>>,
+    first: Option<Result<Instruction, LineFault>>,
     left: &mut u32,
 ) -> Result<bool, StreamFault>
     requires { left.old ≤ MOST_LINES }

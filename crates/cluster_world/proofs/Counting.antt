@@ -8,7 +8,7 @@ use Rattle.std.proofs.lemmas.List.Elements.{filter-append}
 use Rattle.registry_model.specs.Process.{Text, Process}
 use Rattle.protocol_model.specs.Answers.{AtMostOne, NotYet, Once as OnceAnswered, answers_under, calls_at}
 use Rattle.protocol_model.specs.Course.{course}
-use Rattle.protocol_model.specs.Event.{Call as AnyCall, Event as AnyEvent, Answer as AnyAnswer, Cause, UnknownNode, calls_spent, cause, causes, first_cause, lock_causes, names_members}
+use Rattle.protocol_model.specs.Event.{Call as AnyCall, Event as AnyEvent, Answer as AnyAnswer, RefusalCause, UnknownNode, calls_spent, cause, causes, first_cause, lock_causes, names_members}
 use Rattle.protocol_model.specs.Letter.{Id, Client, is_id}
 use Rattle.protocol_model.specs.Node.{Target, Retries, targets}
 use Rattle.protocol_model.specs.ClientLocks.{Try, Tally, try_of, last_try, tally_from, tally_after, holds_count, gives}
@@ -29,7 +29,7 @@ use Rattle.getting_through.proofs.Theorem.{calls_are_answered_once}
 use Rattle.node_core.specs.declared.Answer.{Answer}
 use Rattle.node_core.specs.NodeEventsSeen.{answer_of}
 use Rattle.world_events.specs.declared.events.WorldEvent.{WorldEvent}
-use Rattle.cluster_world.specs.Held.{Held}
+use Rattle.cluster_world.specs.Held.{HeldWorld}
 use Rattle.cluster_world.specs.Seen.{names_of, seen, named}
 use Rattle.cluster_world.specs.Playing.{WentThrough, events_of, accepts_all, answers_to_all}
 use Rattle.cluster_world.specs.Locks.{try_behind}
@@ -282,12 +282,12 @@ module _ (o : NamedOpening) (before : List NamedEvent) (w : NamedWorld) (is : w 
             (spent_first O p w.world num stands (tally p i c).last fit idle) (λ alive. refl) goes
 
 -- an accepted lock call is of a process of its node
-home_of : (w : World) (a : ℕ) (p : Process) (r : Text) (more : List Cause)
+home_of : (w : World) (a : ℕ) (p : Process) (r : Text) (more : List RefusalCause)
     → first_cause (lock_causes a (w.node a) p r ++ more) ≡ None → p.node ≡ a
 home_of w a p r more h = eqb-true p.node a (live_own a (w.node a).watch p
     (lock_tested a (w.node a) p r more h).0).0
 
-module _ (es : List WorldEvent) (given : List Answer) (old new : Held) (most : ℕ) (v : Option Bool)
+module _ (es : List WorldEvent) (given : List Answer) (old new : HeldWorld) (most : ℕ) (v : Option Bool)
     (W : WentThrough es old new [] given) where
   abbrev o : NamedOpening
   o = names_of old

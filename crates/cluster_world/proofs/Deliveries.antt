@@ -20,11 +20,11 @@ use Rattle.term.proofs.Numbers.{of_both, text_in-first_node, name_of-packed, nam
 use Rattle.term.proofs.Older.{held}
 use Rattle.link.specs.Held.{place}
 use Rattle.node_core.specs.declared.Letter.{Letter}
-use Rattle.node_core.specs.Held.{Held as Core, HaveLeft}
+use Rattle.node_core.specs.Held.{HeldCore, HaveLeft}
 use Rattle.node_core.specs.Letters.{letter_of}
 use Rattle.world_events.specs.declared.events.WorldEvent.TheVariants.{Deliver}
 use Rattle.world_events.specs.declared.refusal.Refusal.TheVariants.{NoSuchNode, NodeLeft, EmptyLink}
-use Rattle.cluster_world.specs.Held.{Held, nodes_of}
+use Rattle.cluster_world.specs.Held.{HeldWorld, nodes_of}
 use Rattle.cluster_world.specs.Links.{IsFirstSender}
 use Rattle.cluster_world.specs.Mail.{links_of}
 use Rattle.cluster_world.specs.Openings.{present_in}
@@ -99,7 +99,7 @@ text_of-name n = text_in-first_node (text_in n)
 less_node : (t c d : ℕ) → 1 ≤ d → d < c → first_node t + (d - 1) < first_node t + (c - 1)
 less_node t c d l m = omega (arith, l, m)
 
-module _ (h : Held) (whole : IsWhole h) (left : HaveLeft (nodes_of h) h.links.departed) where
+module _ (h : HeldWorld) (whole : IsWhole h) (left : HaveLeft (nodes_of h) h.links.departed) where
   stand : NodesStand (names_of h) (named h)
   stand = subst (λ (v : NamedWorld). NodesStand (names_of h) v) (sym whole.reached)
       (nodes_always_stand (names_of h) whole.events)
@@ -311,15 +311,15 @@ module _ (h : Held) (whole : IsWhole h) (left : HaveLeft (nodes_of h) h.links.de
           (if is_nil ((seen h).links.queue sender receiver) then Some AnyRefusal.EmptyLink else None) e
 
 -- The node at a place reads, and has the name that a delivery gives; what is held is seen as v and as h
-module _ (v h : Held) (same : v ≡ h) (whole : IsWhole v) (x y p : ℕ)
-    (seat : (n : ℕ) × (place n (nodes_of h) ≡ Some p) × (name_of n ≡ y)) (core : Core) (is : core ≡ get_or v.cores p core)
+module _ (v h : HeldWorld) (same : v ≡ h) (whole : IsWhole v) (x y p : ℕ)
+    (seat : (n : ℕ) × (place n (nodes_of h) ≡ Some p) × (name_of n ≡ y)) (core : HeldCore) (is : core ≡ get_or v.cores p core)
     (t : ℕ) (named_as : t ≡ core.name) where
   whole_too : IsWhole h
   whole_too = subst IsWhole same whole
 
   reader_is : t ≡ seat.0
   reader_is = named_as
-      ∙ named_so h whole_too seat.0 p core seat.1 (subst (λ (k : Held). core ≡ get_or k.cores p core) same is)
+      ∙ named_so h whole_too seat.0 p core seat.1 (subst (λ (k : HeldWorld). core ≡ get_or k.cores p core) same is)
 
   present_too : set_of (nodes_of h) t ≡ true
   present_too = ap (set_of (nodes_of h)) reader_is ∙ known_place (nodes_of h) seat.0 p seat.1
@@ -328,10 +328,10 @@ module _ (v h : Held) (same : v ≡ h) (whole : IsWhole v) (x y p : ℕ)
   reads_as = ap name_of reader_is ∙ seat.2
 
   links_too : (r : Option ℕ) → IsFirstSender x t r (links_of v.links) → IsFirstSender x t r (links_of h.links)
-  links_too r = subst (λ (k : Held). IsFirstSender x t r (links_of k.links)) same
+  links_too r = subst (λ (k : HeldWorld). IsFirstSender x t r (links_of k.links)) same
 
   pub reads_here : set_of (nodes_of v) t ≡ true
-  reads_here = ap (λ (k : Held). set_of (nodes_of k) t) same ∙ present_too
+  reads_here = ap (λ (k : HeldWorld). set_of (nodes_of k) t) same ∙ present_too
 
   pub reads_there : place t (nodes_of h) ≡ Some p
   reads_there = ap (λ (m : ℕ). place m (nodes_of h)) reader_is ∙ seat.1
@@ -367,7 +367,7 @@ module _ (v h : Held) (same : v ≡ h) (whole : IsWhole v) (x y p : ℕ)
           go (Some f) first e = absurd (cc e)
 
       gone_too : (b : Bool) → (links_of v.links).closed t ≡ b → with_older h.links.departed t ≡ b
-      gone_too b e = ap (λ (k : Held). with_older k.links.departed t) (sym same)
+      gone_too b e = ap (λ (k : HeldWorld). with_older k.links.departed t) (sym same)
           ∙ ap (λ (s : ℕ → Bool). s t) (sym (closed_is v.links)) ∙ e
 
       pub refuses_found_left : (links_of v.links).closed t ≡ true → RefusedWith NodeLeft (Deliver x y) h
@@ -384,7 +384,7 @@ module _ (v h : Held) (same : v ≡ h) (whole : IsWhole v) (x y p : ℕ)
   finds_one went first A r sender none = go (names_in (nodes_of h) x) refl
     where
       left : HaveLeft (nodes_of h) h.links.departed
-      left = subst (λ (k : Held). HaveLeft (nodes_of k) k.links.departed) same went
+      left = subst (λ (k : HeldWorld). HaveLeft (nodes_of k) k.links.departed) same went
 
       nobody : IsFirstSender x t None (links_of h.links)
       nobody = subst (λ (o : Option ℕ). IsFirstSender x t o (links_of h.links)) none (links_too r sender)

@@ -16,7 +16,7 @@ use Rattle.term.proofs.Older.{held, reached, first_alone, succeeded_is, succeede
 use Rattle.link.specs.declared.faults.LinkFault.{LinkFault}
 use Rattle.link.specs.declared.faults.LinkFault.TheVariants as on_link
 use Rattle.link.specs.Faults.{IsStranger, IsUndelivered}
-use Rattle.link.specs.Held.{Held as Mesh, WaitsFirst as FirstOfMesh, has, place, node_at, only_to, seen as on_mesh}
+use Rattle.link.specs.Held.{HeldMesh, WaitsFirst as FirstOfMesh, has, place, node_at, only_to, seen as on_mesh}
 use Rattle.link.specs.Reopening.{reopened}
 use Rattle.link.proofs.Places.{queue-stranger}
 use Rattle.node_core.specs.declared.Letter.{Letter}
@@ -486,7 +486,7 @@ module _ (h : Mailed) (sound : IsSound h) where
   fits_of = record { closed = sound.closed; quiet = sound.quiet; named = sound.named; rise = sound.rise }
 
 -- and a mail of such links is sound
-pub sound_of : (nodes departed : List ℕ) (m : Mesh SentLetter) (u : Option Unsent) → HaveLeft nodes departed
+pub sound_of : (nodes departed : List ℕ) (m : HeldMesh SentLetter) (u : Option Unsent) → HaveLeft nodes departed
     → m.nodes ≡ map name_of nodes → Fits nodes departed (on_mesh m) → IfSome u (AreOwn nodes)
     → IsSound (record { nodes = nodes; departed = departed; mesh = m; unsent = u })
 sound_of nodes departed m u left names fits own = record {
@@ -575,7 +575,7 @@ front_of h sound f t here first r e =
 
 -- a delivery that fails takes nothing from a link on which a letter is
 pub delivered : (h : Mailed) → IsSound h → (f t : ℕ) → set_of h.nodes t ≡ true → IsFirstSender (name_of f) t (Some f) (on_links h)
-    → (k : Mesh SentLetter) (r : Result SentLetter LinkFault)
+    → (k : HeldMesh SentLetter) (r : Result SentLetter LinkFault)
     → OnOk r (on_mesh k ≡ taken (name_of f) (name_of t) (on_mesh h.mesh))
     → IfErr r (λ fault. IsUndelivered fault (name_of f) (name_of t) h.mesh)
     → on_mesh k ≡ taken (name_of f) (name_of t) (on_mesh h.mesh)
@@ -607,14 +607,14 @@ known_so h sound a here (Err on_link.Full) ok err = absurd err
 known_so h sound a here (Err on_link.Memory) ok err = absurd err
 
 -- a mail without letters is sound
-pub new_sound : (nodes departed : List ℕ) (m : Mesh SentLetter) → All IsFirst nodes → departed ≡ [] → m.nodes ≡ nodes
+pub new_sound : (nodes departed : List ℕ) (m : HeldMesh SentLetter) → All IsFirst nodes → departed ≡ [] → m.nodes ≡ nodes
     → on_mesh m ≡ no_letters → IsSound (record { nodes = nodes; departed = departed; mesh = m; unsent = None })
 new_sound nodes departed m first none are empty = sound_of nodes departed m None
     (subst (λ (ns : List ℕ). HaveLeft nodes ns) (sym none) (none_left nodes first)) (are ∙ names_are nodes first)
     (subst (λ (ns : List ℕ). Fits nodes ns (on_mesh m)) (sym none)
     (subst (λ (w : Links SentLetter). Fits nodes [] w) (sym empty) (fits_nothing nodes))) tt
 
-pub new_links : (nodes departed : List ℕ) (m : Mesh SentLetter) → departed ≡ [] → on_mesh m ≡ no_letters
+pub new_links : (nodes departed : List ℕ) (m : HeldMesh SentLetter) → departed ≡ [] → on_mesh m ≡ no_letters
     → by_nodes nodes departed (on_mesh m) ≡ no_letters
 new_links nodes departed m none empty = ap (λ (ns : List ℕ). by_nodes nodes ns (on_mesh m)) none
     ∙ ap (λ (w : Links SentLetter). by_nodes nodes [] w) empty ∙ nothing_by nodes

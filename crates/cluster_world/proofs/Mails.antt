@@ -13,7 +13,7 @@ use Rattle.term.proofs.NodePlaces.{place-Some}
 use Rattle.term.proofs.Older.{held}
 use Rattle.link.specs.declared.faults.LinkFault.{LinkFault}
 use Rattle.link.specs.Faults.{IsStranger, IsUndelivered}
-use Rattle.link.specs.Held.{Held as Mesh, only_to, place, node_at, seen as on_mesh}
+use Rattle.link.specs.Held.{HeldMesh, only_to, place, node_at, seen as on_mesh}
 use Rattle.link.specs.Reopening.{reopened}
 use Rattle.node_core.specs.declared.Letter.{Letter}
 use Rattle.node_core.specs.Held.{IsNext}
@@ -26,7 +26,7 @@ use Rattle.cluster_world.proofs.Outboxes.{closed_as, closed_behind, first_still,
 use Rattle.cluster_world.proofs.Posting.{posted-cons}
 
 module _ (h : Mailed) (sound : IsSound h) where
-  module _ (a r : ℕ) (l : Letter) (k : Mesh SentLetter) (here : set_of h.nodes a ≡ true) (started : with_older h.nodes r ≡ true)
+  module _ (a r : ℕ) (l : Letter) (k : HeldMesh SentLetter) (here : set_of h.nodes a ≡ true) (started : with_older h.nodes r ≡ true)
       (stays : with_older h.departed r ≡ false) (same : k.nodes ≡ h.mesh.nodes)
       (put : on_mesh k ≡ posted (name_of a) (only_to (name_of r) (record { sender = a; letter = l })) (on_mesh h.mesh)) where
     -- a letter of a node at present was put on its link
@@ -40,7 +40,7 @@ module _ (h : Mailed) (sound : IsSound h) where
         ∙ posted_by h.nodes h.departed (on_mesh h.mesh) sound.left (fits_of h sound) a r l here
         (stands h.nodes h.departed r sound.left started stays)
 
-  module _ (f t : ℕ) (k : Mesh SentLetter) (result : Result SentLetter LinkFault) (here : set_of h.nodes t ≡ true)
+  module _ (f t : ℕ) (k : HeldMesh SentLetter) (result : Result SentLetter LinkFault) (here : set_of h.nodes t ≡ true)
       (all : h.unsent ≡ None) (first : IsFirstSender (name_of f) t (Some f) (links_of h)) (same : k.nodes ≡ h.mesh.nodes)
       (ok : OnOk result (on_mesh k ≡ taken (name_of f) (name_of t) (on_mesh h.mesh)))
       (err : IfErr result (λ fault. IsUndelivered fault (name_of f) (name_of t) h.mesh)) where
@@ -62,7 +62,7 @@ module _ (h : Mailed) (sound : IsSound h) where
         ∙ taken_by h.nodes h.departed (on_mesh h.mesh) sound.left (fits_of h sound) f t here on_its_link
         ∙ ap (λ (u : Option Unsent). taken f t (with_unsent u (on_links h))) (sym all)
 
-  module _ (d : ℕ) (more : List ℕ) (k : Mesh SentLetter) (result : Result Unit LinkFault) (here : set_of h.nodes d ≡ true)
+  module _ (d : ℕ) (more : List ℕ) (k : HeldMesh SentLetter) (result : Result Unit LinkFault) (here : set_of h.nodes d ≡ true)
       (same : k.nodes ≡ h.mesh.nodes) (ok : OnOk result (on_mesh k ≡ closed_out (name_of d) (on_mesh h.mesh)))
       (err : IfErr result (λ fault. IsStranger fault (name_of d) h.mesh))
       (are : (c : ℕ) → with_older more c ≡ (with_older h.nodes c && (with_older h.departed c || with_older (d ∷ []) c))) where
@@ -85,7 +85,7 @@ module _ (h : Mailed) (sound : IsSound h) where
         ∙ closed_by h.nodes h.departed (on_mesh h.mesh) sound.left (fits_of h sound) d more here with_it)
         ∙ closed_behind h.unsent d (on_links h)
 
-  module _ (older next : ℕ) (now : List ℕ) (k : Mesh SentLetter) (result : Result Unit LinkFault) (is : IsNext older next)
+  module _ (older next : ℕ) (now : List ℕ) (k : HeldMesh SentLetter) (result : Result Unit LinkFault) (is : IsNext older next)
       (known : set_of h.nodes older ≡ true) (away : with_older h.departed older ≡ true) (all : h.unsent ≡ None)
       (same : k.nodes ≡ h.mesh.nodes) (ok : OnOk result (on_mesh k ≡ reopened (name_of older) (on_mesh h.mesh)))
       (err : IfErr result (λ fault. IsStranger fault (name_of older) h.mesh)) (are : now ≡ succeeded older next h.nodes) where
@@ -251,7 +251,7 @@ module _ (a : ℕ) (w : Mailed) (ws : List (ℕ × Letter)) where
     }
 
     -- it is on its link
-    pub sending_one : (k : Mesh SentLetter) (n y : ℕ) (s : SentLetter) → set_of w.nodes a ≡ true → with_older m.departed r ≡ false
+    pub sending_one : (k : HeldMesh SentLetter) (n y : ℕ) (s : SentLetter) → set_of w.nodes a ≡ true → with_older m.departed r ≡ false
         → n ≡ name_of a → y ≡ name_of r → s ≡ record { sender = a; letter = l } → k.nodes ≡ m.mesh.nodes
         → on_mesh k ≡ posted n (only_to y s) (on_mesh m.mesh) → IsSending a w ws (record m { mesh = k }) rest
     sending_one k n y s here stays from to is same put = record {
@@ -278,10 +278,10 @@ module _ (a : ℕ) (w : Mailed) (ws : List (ℕ × Letter)) where
             ∙ ap (λ (x : SentLetter). posted (name_of a) (only_to (name_of r) x) (on_mesh m.mesh)) is
 
     -- memory was refused, and it is put back in front of the others
-    pub sending_back : (k : Mesh SentLetter) (qs : List (ℕ × Letter)) (j : Letter) → k ≡ m.mesh → qs ≡ (r, j) ∷ rest → j ≡ l
+    pub sending_back : (k : HeldMesh SentLetter) (qs : List (ℕ × Letter)) (j : Letter) → k ≡ m.mesh → qs ≡ (r, j) ∷ rest → j ≡ l
         → IsSending a w ws (record m { mesh = k }) qs
     sending_back k qs j same put is =
-        subst (λ (e : Mesh SentLetter). IsSending a w ws (record m { mesh = e }) qs) (sym same)
+        subst (λ (e : HeldMesh SentLetter). IsSending a w ws (record m { mesh = e }) qs) (sym same)
         (subst (λ (ss : List (ℕ × Letter)). IsSending a w ws m ss)
         (are ∙ ap (λ (x : Letter). (r, x) ∷ rest) (sym is) ∙ sym put) S)
 

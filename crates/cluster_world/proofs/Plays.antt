@@ -19,7 +19,7 @@ use Rattle.term.proofs.Older.{held}
 use Rattle.link.specs.Held.{place}
 use Rattle.node_core.specs.declared.Call.TheVariants.{Spawn, Whereis, RegisteredNames, Notices, Register, ReRegister, Unregister, SetLock, DelLock, Join as JoinBy}
 use Rattle.node_core.specs.declared.Call.{Call as ClientCall}
-use Rattle.node_core.specs.Held.{Held as Core, HaveLeft, bound_of}
+use Rattle.node_core.specs.Held.{HeldCore, HaveLeft, bound_of}
 use Rattle.node_core.specs.Seen.{node_of}
 use Rattle.node_core.specs.NodeEventsSeen.{fault_of}
 use Rattle.node_core.specs.declared.StepFault.{StepFault}
@@ -29,7 +29,7 @@ use Rattle.world_events.specs.declared.events.Event.TheVariants.{Call, Retry, Ex
 use Rattle.world_events.specs.declared.refusal.Refusal.TheVariants.{NoSuchNode, NodeLeft, Step}
 use Rattle.world_events.specs.declared.events.WorldEvent.TheVariants.{At}
 use Rattle.world_events.specs.Events.{node_event, own_event_of, is_leave, knows_contact}
-use Rattle.cluster_world.specs.Held.{Held, nodes_of}
+use Rattle.cluster_world.specs.Held.{HeldWorld, nodes_of}
 use Rattle.cluster_world.specs.Openings.{present_in}
 use Rattle.cluster_world.specs.Playing.{RefusedWith}
 use Rattle.cluster_world.specs.Seen.{names_of, opening_of, seen, named}
@@ -140,7 +140,7 @@ not_leave n a s t Retry u other = refl
 not_leave n a s t (Exit p) u other = refl
 not_leave n a s t Leave u other = cc
 
-module _ (h : Held) (left : HaveLeft (nodes_of h) h.links.departed) where
+module _ (h : HeldWorld) (left : HaveLeft (nodes_of h) h.links.departed) where
   -- the world has the node and it has started just where it is at present or older
   pub seen_known : (n : ℕ) → (has_started (names_of h) (named h) n && in_world (opening_of h) n) ≡ with_older (nodes_of h) n
   seen_known n = go (names_in (nodes_of h) (name_of n)) refl
@@ -217,14 +217,14 @@ module _ (h : Held) (left : HaveLeft (nodes_of h) h.links.departed) where
         (here, sym (other_of (nodes_of h) a e here) ∙ sym (seen_known contact) ∙ o.contact, o.runs, o.rest)
 
 -- why the node refuses
-own_refusal : (e : Event) (c : Core) → node_refusal (node_event e) c ≡ first_cause (causes c.name (node_of c) (own_event_of e))
+own_refusal : (e : Event) (c : HeldCore) → node_refusal (node_event e) c ≡ first_cause (causes c.name (node_of c) (own_event_of e))
 own_refusal (Call c) k = refl
 own_refusal Retry k = refl
 own_refusal (Exit p) k = refl
 own_refusal Leave k = refl
 
 -- an event that is accepted, with what it makes
-module _ (h : Held) (e : NamedEvent) (E : AnyWorldEvent) (is : plain (names_of h) (named h) e ≡ E ∷ [])
+module _ (h : HeldWorld) (e : NamedEvent) (E : AnyWorldEvent) (is : plain (names_of h) (named h) e ≡ E ∷ [])
     (present : present_after (names_of h) (named h) e ≡ present_in (nodes_of h))
     (free : named_refusal (names_of h) (named h) e ≡ None) (plain_free : refusal (opening_of h) (seen h) E ≡ None) where
   abbrev run_of : List AnyWorldEvent → World
@@ -251,12 +251,12 @@ module _ (h : Held) (e : NamedEvent) (E : AnyWorldEvent) (is : plain (names_of h
       (sym free)
 
 -- where an event happened, one more made the world what it is
-pub reached_more : (h : Held) (whole : IsWhole h) (e : NamedEvent) (v : NamedWorld) → v ≡ happens_named (names_of h) (named h) e
+pub reached_more : (h : HeldWorld) (whole : IsWhole h) (e : NamedEvent) (v : NamedWorld) → v ≡ happens_named (names_of h) (named h) e
     → v ≡ after_events (names_of h) (whole.events ++ e ∷ [])
 reached_more h whole e v is = is ∙ ap (λ (w : NamedWorld). happens_named (names_of h) w e) whole.reached
     ∙ sym (after_events-push (names_of h) whole.events e)
 
-module _ (h : Held) (whole : IsWhole h) (left : HaveLeft (nodes_of h) h.links.departed) (a i : ℕ) (e : Event) (core : Core)
+module _ (h : HeldWorld) (whole : IsWhole h) (left : HaveLeft (nodes_of h) h.links.departed) (a i : ℕ) (e : Event) (core : HeldCore)
     (there : place a (nodes_of h) ≡ Some i) (is : core ≡ get_or h.cores i core) where
   why_is : first_cause (causes a ((seen h).node a) (own_event_of e)) ≡ node_refusal (node_event e) core
   why_is = ap (λ (v : Node). first_cause (causes a v (own_event_of e))) (node_is h whole a i core there is)
@@ -305,7 +305,7 @@ module _ (h : Held) (whole : IsWhole h) (left : HaveLeft (nodes_of h) h.links.de
   takes free = let f = accepts h left a e free in sym why_is ∙ f.3
 
 -- by another event than a leave nobody leaves
-pub stays : (h : Held) (a : ℕ) (e : Event) → is_leave e ≡ false
+pub stays : (h : HeldWorld) (a : ℕ) (e : Event) → is_leave e ≡ false
     → accepted (opening_of h) (seen h) (AnyWorldEvent.At a (own_event_of e))
     ≡ apply a (event (opening_of h).bound a (set_of (nodes_of h)) (own_event_of e) (begun ((seen h).node a))) (seen h)
 stays h a e other = plainly e other
@@ -320,7 +320,7 @@ stays h a e other = plainly e other
     plainly Leave other = cc
 
 -- a leave says so to all nodes of the world, and all links towards its node are closed
-module _ (h : Held) (left : HaveLeft (nodes_of h) h.links.departed) (a : ℕ) where
+module _ (h : HeldWorld) (left : HaveLeft (nodes_of h) h.links.departed) (a : ℕ) where
   abbrev pub leave_among : Nodes → Turn
   leave_among s = event (opening_of h).bound a s AnyEvent.Leave (begun ((seen h).node a))
 

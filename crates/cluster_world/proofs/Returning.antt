@@ -8,10 +8,10 @@ use Rattle.term.specs.Nodes.{name_of, text_in, creation_of, last_creation}
 use Rattle.term.specs.NodeSets.{set_of, with_older, succeeded}
 use Rattle.term.proofs.NodePlaces.{place-Some}
 use Rattle.link.specs.Held.{place}
-use Rattle.node_core.specs.Held.{Held as Core, HaveLeft, fresh_behind}
+use Rattle.node_core.specs.Held.{HeldCore, HaveLeft, fresh_behind}
 use Rattle.world_events.specs.declared.events.WorldEvent.{WorldEvent}
 use Rattle.world_history.specs.declared.entry.HistoryEntry.{HistoryEntry}
-use Rattle.cluster_world.specs.Held.{Held, nodes_of}
+use Rattle.cluster_world.specs.Held.{HeldWorld, nodes_of}
 use Rattle.cluster_world.specs.Mail.{Mailed, links_of}
 use Rattle.cluster_world.specs.Playing.{Played}
 use Rattle.cluster_world.specs.Restarting.{replaced_in, CanReplace}
@@ -33,21 +33,21 @@ read_at ns ms ks p a b same is read of = same ∙ is ∙ ap (λ (xs : List ℕ).
     ∙ ap (λ (d : ℕ). get_or ks p d) (sym same)
 
 -- the running nodes took the next node through a slice of all
-pub slice_is : (ds : List ℕ) (a b n : ℕ) (was cs now more then : List Core) → now ≡ was → cs ≡ map (replaced_in ds a b) now
+pub slice_is : (ds : List ℕ) (a b n : ℕ) (was cs now more then : List HeldCore) → now ≡ was → cs ≡ map (replaced_in ds a b) now
     → n ≡ length was → then ≡ take n (cs ++ more) → then ≡ map (replaced_in ds a b) was
 slice_is ds a b n was cs now more then same took long wrote = wrote
-    ∙ wrote_all n cs more (ap (λ (xs : List Core). length xs) (took ∙ ap (map (replaced_in ds a b)) same)
+    ∙ wrote_all n cs more (ap (λ (xs : List HeldCore). length xs) (took ∙ ap (map (replaced_in ds a b)) same)
     ∙ length-map was (replaced_in ds a b) ∙ sym long)
     ∙ took ∙ ap (map (replaced_in ds a b)) same
 
 -- and a core was put there
-pub slice_put : (ds : List ℕ) (a b n p : ℕ) (was then cs more : List Core) (core : Core) → then ≡ map (replaced_in ds a b) was
+pub slice_put : (ds : List ℕ) (a b n p : ℕ) (was then cs more : List HeldCore) (core : HeldCore) → then ≡ map (replaced_in ds a b) was
     → n ≡ length was → cs ≡ set then p core → take n (cs ++ more) ≡ set then p core
-slice_put ds a b n p was then cs more core took long put = wrote_all n cs more (ap (λ (xs : List Core). length xs) put
-    ∙ length-set then p core ∙ ap (λ (xs : List Core). length xs) took ∙ length-map was (replaced_in ds a b) ∙ sym long)
+slice_put ds a b n p was then cs more core took long put = wrote_all n cs more (ap (λ (xs : List HeldCore). length xs) put
+    ∙ length-set then p core ∙ ap (λ (xs : List HeldCore). length xs) took ∙ length-map was (replaced_in ds a b) ∙ sym long)
     ∙ put
 
-module _ (old h : Held) (is_old : h ≡ old) (whole : IsWhole h) (went : HaveLeft (nodes_of h) h.links.departed) (p x a : ℕ)
+module _ (old h : HeldWorld) (is_old : h ≡ old) (whole : IsWhole h) (went : HaveLeft (nodes_of h) h.links.departed) (p x a : ℕ)
     (A : IsAdmitted p (WorldEvent.Restart x) old) (at : a ≡ get_or (nodes_of h) p a) where
   here : IsAdmitted p (WorldEvent.Restart x) h
   here = subst (IsAdmitted p (WorldEvent.Restart x)) (sym is_old) A
@@ -81,8 +81,8 @@ module _ (old h : Held) (is_old : h ≡ old) (whole : IsWhole h) (went : HaveLef
     length-map h.cores core_name,
   )
 
-  pub long_then : (ds : List ℕ) (b : ℕ) (cs : List Core) → cs ≡ map (replaced_in ds a b) h.cores → p < length cs
-  long_then ds b cs e = omega (arith, long, ap (λ (xs : List Core). length xs) e, length-map h.cores (replaced_in ds a b))
+  pub long_then : (ds : List ℕ) (b : ℕ) (cs : List HeldCore) → cs ≡ map (replaced_in ds a b) h.cores → p < length cs
+  long_then ds b cs e = omega (arith, long, ap (λ (xs : List HeldCore). length xs) e, length-map h.cores (replaced_in ds a b))
 
   -- the older node is there, and has left
   pub older_known : (links : Mailed) → links.nodes ≡ nodes_of h → set_of links.nodes a ≡ true
@@ -92,7 +92,7 @@ module _ (old h : Held) (is_old : h ≡ old) (whole : IsWhole h) (went : HaveLef
   older_left links e = ap (λ (ns : List ℕ). with_older ns a) e ∙ gone
 
   -- the running nodes were told
-  pub were_told : (ds : List ℕ) (cs : List Core) → ds ≡ h.links.departed → cs ≡ h.cores → All (CanReplace ds a) cs
+  pub were_told : (ds : List ℕ) (cs : List HeldCore) → ds ≡ h.links.departed → cs ≡ h.cores → All (CanReplace ds a) cs
   were_told ds cs e f = subst (λ (es : List ℕ). All (CanReplace es a) cs) (sym e)
       (subst (All (CanReplace h.links.departed a)) (sym f) (can_replace h whole went a x p there own here.accepted))
 
@@ -115,24 +115,24 @@ module _ (old h : Held) (is_old : h ≡ old) (whole : IsWhole h) (went : HaveLef
     pub restarted_entered : (history : List HistoryEntry) → history ≡ h.history ++ HistoryEntry.Restart b ∷ []
         → history ≡ old.history ++ HistoryEntry.Restart (next_node (names_of old) (named old) (text_in x)) ∷ []
     restarted_entered history entered =
-        subst (λ (k : Held). history ≡ k.history ++ HistoryEntry.Restart (next_node (names_of k) (named k) (text_in x)) ∷ []) is_old
+        subst (λ (k : HeldWorld). history ≡ k.history ++ HistoryEntry.Restart (next_node (names_of k) (named k) (text_in x)) ∷ []) is_old
         (entered ∙ ap (λ (n : ℕ). h.history ++ HistoryEntry.Restart n ∷ [])
         (next ∙ sym (next_is h whole went a x p there own here.accepted)))
 
-    module _ (ds es ns : List ℕ) (cs cores past : List Core) (links : Mailed) (history : List HistoryEntry) (fresh : Core)
+    module _ (ds es ns : List ℕ) (cs cores past : List HeldCore) (links : Mailed) (history : List HistoryEntry) (fresh : HeldCore)
         (ds_are : ds ≡ h.links.departed) (es_are : es ≡ h.links.departed) (ns_are : ns ≡ later)
         (cs_are : cs ≡ map (replaced_in ds a b) h.cores) (is_fresh : fresh ≡ fresh_behind b ns (b ∷ []) es false)
         (cores_are : cores ≡ set cs p fresh) (past_is : past ≡ h.past ++ get_or cs p fresh ∷ [])
         (nodes_are : links.nodes ≡ later) (left_are : links.departed ≡ h.links.departed)
         (linked : links_of links ≡ links_of h.links) (entered : history ≡ h.history ++ HistoryEntry.Restart b ∷ []) where
-      abbrev behind : Held
+      abbrev behind : HeldWorld
       behind = record { cluster = h.cluster; cores = cores; past = past; links = links; history = history }
 
       cs_so : cs ≡ map (replaced_in h.links.departed a (a + 1)) h.cores
       cs_so = cs_are ∙ ap (λ (xs : List ℕ). map (replaced_in xs a b) h.cores) ds_are
           ∙ ap (λ (n : ℕ). map (replaced_in h.links.departed a n) h.cores) next
 
-      abbrev started : Core
+      abbrev started : HeldCore
       started = fresh_behind (a + 1) (succeeded a (a + 1) (nodes_of h)) ((a + 1) ∷ []) h.links.departed false
 
       fresh_so : fresh ≡ started
@@ -140,18 +140,18 @@ module _ (old h : Held) (is_old : h ≡ old) (whole : IsWhole h) (went : HaveLef
           ∙ ap (λ (xs : List ℕ). fresh_behind b later (b ∷ []) xs false) es_are
           ∙ ap (λ (n : ℕ). fresh_behind n (succeeded a n (nodes_of h)) (n ∷ []) h.links.departed false) next
 
-      abbrev core : Core
+      abbrev core : HeldCore
       core = get_or h.cores p fresh
 
       is : core ≡ get_or h.cores p core
       is = get_or_default h.cores p fresh core long
 
       made : cores ≡ set (map (replaced_in h.links.departed a (a + 1)) h.cores) p started
-      made = cores_are ∙ ap (λ (xs : List Core). set xs p fresh) cs_so
+      made = cores_are ∙ ap (λ (xs : List HeldCore). set xs p fresh) cs_so
           ∙ ap (set (map (replaced_in h.links.departed a (a + 1)) h.cores) p) fresh_so
 
       was : get_or cs p fresh ≡ replaced_in h.links.departed a (a + 1) core
-      was = ap (λ (xs : List Core). get_or xs p fresh) cs_so
+      was = ap (λ (xs : List HeldCore). get_or xs p fresh) cs_so
           ∙ get_or-map (replaced_in h.links.departed a (a + 1)) h.cores p fresh fresh long
 
       nodes_so : links.nodes ≡ succeeded a (a + 1) (nodes_of h)
@@ -165,7 +165,7 @@ module _ (old h : Held) (is_old : h ≡ old) (whole : IsWhole h) (went : HaveLef
           made past_is was nodes_so left_are linked entered_so
 
       pub restarted_played : Played (WorldEvent.Restart x) old behind [] []
-      restarted_played = subst (λ (k : Held). Played (WorldEvent.Restart x) k behind [] []) is_old (record {
+      restarted_played = subst (λ (k : HeldWorld). Played (WorldEvent.Restart x) k behind [] []) is_old (record {
         names = names_back h whole went a x p there own here.accepted cores past links history core (get_or cs p fresh) is made
             past_is was nodes_so left_are linked entered_so;
         cluster = refl;

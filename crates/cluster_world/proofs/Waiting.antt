@@ -28,7 +28,7 @@ use Rattle.node_core.specs.declared.Letter.{Letter}
 use Rattle.node_core.specs.Held.{HaveLeft}
 use Rattle.world_events.specs.declared.events.WorldEvent.TheVariants.{Deliver as Delivers}
 use Rattle.world_events.specs.Events.{named_event}
-use Rattle.cluster_world.specs.Held.{Held, nodes_of}
+use Rattle.cluster_world.specs.Held.{HeldWorld, nodes_of}
 use Rattle.cluster_world.specs.Whole.{IsWhole}
 use Rattle.cluster_world.specs.Links.{WaitsFirst}
 use Rattle.cluster_world.specs.Mail.{links_of}
@@ -119,7 +119,7 @@ module _ (o : NamedOpening) (w : NamedWorld) where
       (λ b j less. row_found x b false (before x b sender j (inr (refl, less))))
       (row_found x y true free))
 
-module _ (h : Held) (whole : IsWhole h) (left : HaveLeft (nodes_of h) h.links.departed) where
+module _ (h : HeldWorld) (whole : IsWhole h) (left : HaveLeft (nodes_of h) h.links.departed) where
   abbrev o : NamedOpening
   o = names_of h
 

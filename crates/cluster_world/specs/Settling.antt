@@ -15,7 +15,7 @@ use Rattle.world_events.specs.Events.{named_event}
 use Rattle.cluster_world.specs.Agreeing.{IsRunOf, Agrees}
 use Rattle.term.specs.Nodes.{name_of}
 use Rattle.link.specs.Held.{place}
-use Rattle.cluster_world.specs.Held.{Held, nodes_of}
+use Rattle.cluster_world.specs.Held.{HeldWorld, nodes_of}
 use Rattle.cluster_world.specs.Links.{IsFirstSender}
 use Rattle.cluster_world.specs.Mail.{links_of}
 use Rattle.cluster_world.specs.Steps.{IsAdmitted}
@@ -25,21 +25,21 @@ use Rattle.cluster_world.specs.Playing.{Played, WentThrough, WaitsOn, events_of}
 use Rattle.cluster_world.specs.Seen.{names_of, opening_of, seen, named}
 
 -- the letter that is delivered next: node f sent it, and node t, which stands at this place, is to read it
-pub record IsNextLetter (p f t : ℕ) (h : Held) : Type 0 where
+pub record IsNextLetter (p f t : ℕ) (h : HeldWorld) : Type 0 where
   pub first : IsFirstSender (name_of f) t (Some f) (links_of h.links)
   pub receiver : place t (nodes_of h) ≡ Some p
   pub admitted : IsAdmitted p (Deliver (name_of f) (name_of t)) h
   pub next : WaitsOn (Some (name_of f, name_of t)) h
 
 -- `settle` makes a delivery next, from name to name, which the protocol accepts
-pub record HasNext (h : Held) : Type 0 where
+pub record HasNext (h : HeldWorld) : Type 0 where
   pub sender : ℕ
   pub receiver : ℕ
   pub next : WaitsOn (Some (sender, receiver)) h
   pub accepted : named_refusal (names_of h) (named h) (named_event (Deliver sender receiver)) ≡ None
 
 -- it was made, and gave these answers; and so all holds behind it that does behind an event that is played
-pub record DeliversNext (old new : Held) (given : List Answer) : Type 0 where
+pub record DeliversNext (old new : HeldWorld) (given : List Answer) : Type 0 where
   pub sender : ℕ
   pub receiver : ℕ
   pub next : WaitsOn (Some (sender, receiver)) old
@@ -49,7 +49,7 @@ pub record DeliversNext (old new : Held) (given : List Answer) : Type 0 where
   pub leaves_nothing : LeavesNothing (Deliver sender receiver ∷ []) old new
 
 -- it was made, with its answers behind those given before, and less work is left
-pub record DeliversInto (old new : Held) (given now : List Answer) : Type 0 where
+pub record DeliversInto (old new : HeldWorld) (given now : List Answer) : Type 0 where
   pub sender : ℕ
   pub receiver : ℕ
   pub next : WaitsOn (Some (sender, receiver)) old
@@ -63,14 +63,14 @@ module _ (o : NamedOpening) (next : NamedWorld → Option NamedEvent) where
   AreNext w (e ∷ es) = (next w ≡ Some e) × AreNext (happens_named o w e) es
 
 -- events were played as each came next by this rule, with their answers behind those given before
-pub record PlaysOn (next : NamedOpening → NamedWorld → Option NamedEvent) (old new : Held) (given now : List Answer) : Type 0 where
+pub record PlaysOn (next : NamedOpening → NamedWorld → Option NamedEvent) (old new : HeldWorld) (given now : List Answer) : Type 0 where
   pub events : List WorldEvent
   pub are : AreNext (names_of old) (next (names_of old)) (named old) (events_of events)
   pub played : WentThrough events old new given now
 
 -- Events were played as each came next by this rule, with these answers; and so all holds behind them that does behind events that
 -- are played
-pub record GoesOn (next : NamedOpening → NamedWorld → Option NamedEvent) (old new : Held) (given : List Answer) : Type 0 where
+pub record GoesOn (next : NamedOpening → NamedWorld → Option NamedEvent) (old new : HeldWorld) (given : List Answer) : Type 0 where
   pub events : List WorldEvent
   pub are : AreNext (names_of old) (next (names_of old)) (named old) (events_of events)
   pub played : WentThrough events old new [] given
@@ -81,7 +81,7 @@ pub record GoesOn (next : NamedOpening → NamedWorld → Option NamedEvent) (ol
 -- A world was settled: the deliveries were made that `settle` makes, with these answers, until no letter waits. So it rests: each
 -- running registrar is free with nothing to do, or was refused and waits for a retry, or waits for a contact that does; and each
 -- `del_lock` has been answered, whatever made the old world what it was, unless its process is dead
-pub record Settles (old new : Held) (given : List Answer) : Type 0 where
+pub record Settles (old new : HeldWorld) (given : List Answer) : Type 0 where
   pub goes_on : GoesOn next_named old new given
   pub ended : WaitsOn None new
   pub rests : IsAtRest (IsUp (names_of new) (named new)) (opening_of new) (seen new)
@@ -89,6 +89,6 @@ pub record Settles (old new : Held) (given : List Answer) : Type 0 where
       (events_played (names_of new) (before ++ events_of goes_on.events)) (seen new)
 
 -- Of these deliveries some were made, the first ones, with these answers, and memory was refused for the next
-pub record StopsSettling (old new : Held) (given : List Answer) : Type 0 where
+pub record StopsSettling (old new : HeldWorld) (given : List Answer) : Type 0 where
   pub goes_on : GoesOn next_named old new given
   pub waits : HasNext new

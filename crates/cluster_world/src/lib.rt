@@ -12,7 +12,7 @@ mod turns;
 mod world;
 
 pub use run_end::RunEnd;
-pub use seat::{SeatFault, WorldSeat};
+pub use seat::{WorldSeat, WorldSeatFault};
 pub use settle::Interrupted;
 pub use world::World;
 pub use world_events::{

@@ -16,7 +16,7 @@ ghost use Rattle.cluster_world.specs.Starting.{Opens};
 use crate::mail::Mail;
 use crate::world::World;
 use name_table::Names;
-use past::Log;
+use past::GhostLog;
 use std::alloc::{AllocError, Global};
 use term::NodeName;
 use world_events::{NodeCore, Opening, StartFault, Turn};
@@ -62,7 +62,7 @@ impl<N: Names<Memory = Global>> World<N> {
         Ok(World {
             cluster: opening.cluster().copy(),
             cores,
-            past: Log::new(),
+            past: GhostLog::new(),
             links,
             history,
             spare: Turn::begin(alloc),

@@ -14,7 +14,7 @@ use crate::mail::Mail;
 use crate::run_end::RunEnd;
 use crate::turns::take_in;
 use name_table::Names;
-use past::Log;
+use past::GhostLog;
 use std::alloc::{AllocError, Global};
 use std::marker::Model;
 use std::mem;
@@ -31,7 +31,7 @@ pub struct World<N: Names> {
     /// The core of each node at present, in the order of the nodes.
     pub(crate) cores: Vec<NodeCore<N>>,
     /// The cores of nodes that were replaced, for proofs alone.
-    pub(crate) past: Log<NodeCore<N>, ()>,
+    pub(crate) past: GhostLog<NodeCore<N>, ()>,
     pub(crate) links: Mail,
     pub(crate) history: History,
     /// The memory of an earlier step, for what the next one makes.
@@ -40,10 +40,10 @@ pub struct World<N: Names> {
 
 impl<N: Names> Model for World<N> {
     ghost use Rattle.std.specs.Prelude.{map};
-    ghost use Rattle.cluster_world.specs.Held.{Held};
+    ghost use Rattle.cluster_world.specs.Held.{HeldWorld};
     ghost use Rattle.cluster_world.specs.Whole.{IsWhole};
 
-    ghost Value = { Held };
+    ghost Value = { HeldWorld };
 
     ghost view = { λ w. record {
       cluster = w.cluster;
@@ -142,7 +142,7 @@ fn replace_in<N: Names<Memory = Global>>(
 /// Puts a core at a place, and keeps the one that stood there, for proofs alone.
 fn put_core<N: Names<Memory = Global>>(
     cores: &mut [NodeCore<N>],
-    past: &mut Log<NodeCore<N>, ()>,
+    past: &mut GhostLog<NodeCore<N>, ()>,
     place: usize,
     core: NodeCore<N>,
 )

@@ -10,7 +10,7 @@ mod refusing;
 
 pub use commands::{ran_out, read_task, text_of};
 pub use faults::LineFault;
-pub use grammar::{Task, read_words};
+pub use grammar::{Instruction, read_words};
 pub use lock_texts::{parse_retries, parse_target};
 pub use name_table::Pair;
 pub use printing::{answer_line, members_line, started_line, table_line};

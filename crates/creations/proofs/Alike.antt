@@ -7,7 +7,7 @@ use Rattle.registry_model.proofs.Updates.{by_test}
 use Rattle.protocol_model.specs.Letter.{Letter}
 use Rattle.protocol_model.specs.Links.{is_nil}
 use Rattle.protocol_model.specs.Node.{Node}
-use Rattle.protocol_model.specs.Event.{Event, Answer, Refusal, NoSuchNode, NodeLeft, EmptyLink, Cause, cause, first_cause, causes}
+use Rattle.protocol_model.specs.Event.{Event, Answer, Refusal, NoSuchNode, NodeLeft, EmptyLink, RefusalCause, cause, first_cause, causes}
 use Rattle.protocol_model.specs.Turn.{Turn, begun, sent_to}
 use Rattle.protocol_model.specs.Calling.{event}
 use Rattle.protocol_model.specs.Reading.{receive}
@@ -32,7 +32,7 @@ module _ (o : Opening) (S : Nodes) where
     same_refusal e i =
         ap (λ (l : Nodes). first_cause (cause (not (in_world o (place e)) || not (in_world o (other e))) NoSuchNode
         ∷ cause (l (place e)) NodeLeft ∷ local_causes u e)) A.departures
-        ∙ ap (λ (cs : List Cause). first_cause (cause (not (in_world o (place e)) || not (in_world o (other e))) NoSuchNode
+        ∙ ap (λ (cs : List RefusalCause). first_cause (cause (not (in_world o (place e)) || not (in_world o (other e))) NoSuchNode
         ∷ cause (left v (place e)) NodeLeft ∷ cs)) (same_causes e i)
 
     pub same_turn : (e : WorldEvent) → S (place e) ≡ true → turn_of o u e ≡ turn_of o v e

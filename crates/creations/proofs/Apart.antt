@@ -10,7 +10,7 @@ use Rattle.registry_model.proofs.Updates.{by_test}
 use Rattle.protocol_model.specs.Letter.{Letter}
 use Rattle.protocol_model.specs.Watch.{Watch, is_live, is_issued, is_dead}
 use Rattle.protocol_model.specs.Node.{opening_node, call_of}
-use Rattle.protocol_model.specs.Event.{Call, Event, Refusal, NoSuchNode, NodeLeft, NotLive, Busy, Reserved, UnknownNode, NoSuchProcess, AlreadyExited, Cause, cause, first_cause, global_resource, names_members, calls_spent}
+use Rattle.protocol_model.specs.Event.{Call, Event, Refusal, NoSuchNode, NodeLeft, NotLive, Busy, Reserved, UnknownNode, NoSuchProcess, AlreadyExited, RefusalCause, cause, first_cause, global_resource, names_members, calls_spent}
 use Rattle.protocol_model.specs.Turn.{Send, Turn, begun, sent_to}
 use Rattle.protocol_model.specs.World.{Opening, in_world, in_cluster, World, left, WorldEvent, At, Deliver, place, other, local_causes, refusal, join_number, heard, turn_of, apply, letter_taken, accepted}
 use Rattle.moves.proofs.Sends.{sent_to-all, to_each}
@@ -42,7 +42,7 @@ sent_letters S n (s ∷ ss) of = go (s.to == n) (sent_letters S n ss (All-tail (
     go false h = h
 
 -- an event that isn't refused meets no cause
-causes_none : (b c : Bool) (r s : Refusal) (more : List Cause)
+causes_none : (b c : Bool) (r s : Refusal) (more : List RefusalCause)
     → first_cause (record { stands = b; refusal = r } ∷ record { stands = c; refusal = s } ∷ more) ≡ None
     → (b ≡ false) × (c ≡ false) × (first_cause more ≡ None)
 causes_none false false r s more e = (refl, refl, e)
@@ -56,7 +56,7 @@ pub unrefused_by : (o : Opening) (w : World) (e : WorldEvent) → refusal o w e 
 unrefused_by o w e r = causes_none (not (in_world o (place e)) || not (in_world o (other e))) (left w (place e)) NoSuchNode NodeLeft
     (local_causes w e) r
 
-first_none : (b : Bool) (r : Refusal) (more : List Cause) → first_cause (record { stands = b; refusal = r } ∷ more) ≡ None
+first_none : (b : Bool) (r : Refusal) (more : List RefusalCause) → first_cause (record { stands = b; refusal = r } ∷ more) ≡ None
     → b ≡ false
 first_none false r more e = refl
 first_none true r more e = cc

@@ -11,7 +11,7 @@ use Rattle.registry_model.specs.History.{Entry}
 use Rattle.protocol_model.specs.Letter.{Letter}
 use Rattle.protocol_model.specs.Links.{is_nil}
 use Rattle.protocol_model.specs.Node.{Node, opening_node}
-use Rattle.protocol_model.specs.Event.{Event, Answer, Refusal, NoSuchNode, NodeLeft, EmptyLink, Cause, cause, first_cause, causes}
+use Rattle.protocol_model.specs.Event.{Event, Answer, Refusal, NoSuchNode, NodeLeft, EmptyLink, RefusalCause, cause, first_cause, causes}
 use Rattle.protocol_model.specs.Turn.{Turn, begun, sent_to}
 use Rattle.protocol_model.specs.Calling.{event}
 use Rattle.protocol_model.specs.Reading.{receive}
@@ -140,9 +140,9 @@ module _ (o : NamedOpening) where
         (ap (λ (b : Bool). not b || not (in_world all_nodes (other e))) (in_both (place e) i.place_one)
         ∙ ap (λ (b : Bool). not (in_world first_ones (place e)) || not b) (in_both (other e) i.other_one))
         ∙ ap (λ (l : Nodes). first_cause (unknown ∷ cause (l (place e)) NodeLeft ∷ local_causes u e)) s.departures
-        ∙ ap (λ (cs : List Cause). first_cause (unknown ∷ cause (left w (place e)) NodeLeft ∷ cs)) (same_causes e i)
+        ∙ ap (λ (cs : List RefusalCause). first_cause (unknown ∷ cause (left w (place e)) NodeLeft ∷ cs)) (same_causes e i)
       where
-        unknown : Cause
+        unknown : RefusalCause
         unknown = cause (not (in_world first_ones (place e)) || not (in_world first_ones (other e))) NoSuchNode
 
     same_answers : (e : WorldEvent) → AreFirst e → answers all_nodes u e ≡ answers first_ones w e

@@ -31,9 +31,9 @@ pub struct Watch {
 }
 
 impl Model for Watch {
-    ghost use Rattle.exit_watch.specs.Held.{Held, AreDead};
+    ghost use Rattle.exit_watch.specs.Held.{HeldWatch, AreDead};
 
-    ghost Value = { Held };
+    ghost Value = { HeldWatch };
 
     ghost view = { λ w. record {
       node = w.node;

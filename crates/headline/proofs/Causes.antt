@@ -7,7 +7,7 @@ use Rattle.registry_model.specs.Process.{Text, Process}
 use Rattle.registry_model.specs.Call.{Look, Whereis, RegisteredNames, NoticesOf}
 use Rattle.protocol_model.specs.Watch.{is_dead, is_issued}
 use Rattle.protocol_model.specs.Node.{Node, Target, Retries, call_of}
-use Rattle.protocol_model.specs.Event.{Call, Event, Refusal, NoSuchNode, NodeLeft, NotLive, Busy, Reserved, UnknownNode, NoSuchProcess, AlreadyExited, SerialsSpent, AlreadyJoined, CallsSpent, last_u32, has_joined, Cause, cause, first_cause, lock_causes, look_causes, calls_spent, names_members, global_resource}
+use Rattle.protocol_model.specs.Event.{Call, Event, Refusal, NoSuchNode, NodeLeft, NotLive, Busy, Reserved, UnknownNode, NoSuchProcess, AlreadyExited, SerialsSpent, AlreadyJoined, CallsSpent, last_u32, has_joined, RefusalCause, cause, first_cause, lock_causes, look_causes, calls_spent, names_members, global_resource}
 use Rattle.protocol_model.specs.Fit.{is_numbered}
 use Rattle.protocol_model.specs.World.{World, WorldEvent, At, Deliver, local_causes}
 use Rattle.moves.proofs.Indices.{neither, not_true}
@@ -40,11 +40,11 @@ of_lock Reserved = true
 of_lock _ = false
 
 -- some of these refusals is of this kind
-abbrev pub has_cause : (Refusal → Bool) → List Cause → Bool
+abbrev pub has_cause : (Refusal → Bool) → List RefusalCause → Bool
 has_cause kind cs = list_any (λ c. kind c.refusal) cs
 
 -- a refusal of a kind that none of them has
-pub never_caused : (kind : Refusal → Bool) (cs : List Cause) (q : Refusal) → has_cause kind cs ≡ false → kind q ≡ true
+pub never_caused : (kind : Refusal → Bool) (cs : List RefusalCause) (q : Refusal) → has_cause kind cs ≡ false → kind q ≡ true
     → first_cause cs ≡ Some q → ⊥
 never_caused kind [] q n k e = cc
 never_caused kind (c ∷ cs) q n k e = go c.stands e (λ h. never_caused kind cs q parts.1 k h)
@@ -57,22 +57,22 @@ never_caused kind (c ∷ cs) q n k e = go c.stands e (λ h. never_caused kind cs
     go false h more = more h
 
 -- the first has no cause where the refusal is of another kind
-pub cause_behind : (kind : Refusal → Bool) (b : Bool) (r : Refusal) (cs : List Cause) (q : Refusal) → kind r ≡ false
+pub cause_behind : (kind : Refusal → Bool) (b : Bool) (r : Refusal) (cs : List RefusalCause) (q : Refusal) → kind r ≡ false
     → kind q ≡ true → first_cause (cause b r ∷ cs) ≡ Some q → (b ≡ false) × (first_cause cs ≡ Some q)
 cause_behind kind true r cs q n k e = let same : r ≡ q = cc in absurd (cc (n, ap kind same, k))
 cause_behind kind false r cs q n k e = (refl, e)
 
 -- the first has cause where no other has this refusal
-pub cause_here : (kind : Refusal → Bool) (b : Bool) (r : Refusal) (cs : List Cause) (q : Refusal) → has_cause kind cs ≡ false
+pub cause_here : (kind : Refusal → Bool) (b : Bool) (r : Refusal) (cs : List RefusalCause) (q : Refusal) → has_cause kind cs ≡ false
     → kind q ≡ true → first_cause (cause b r ∷ cs) ≡ Some q → (b ≡ true) × (r ≡ q)
 cause_here kind true r cs q n k e = (refl, cc)
 cause_here kind false r cs q n k e = absurd (never_caused kind cs q n k e)
 
 -- it has none, or it has
-pub cause_past : (b : Bool) (r : Refusal) (cs : List Cause) → b ≡ false → first_cause (cause b r ∷ cs) ≡ first_cause cs
+pub cause_past : (b : Bool) (r : Refusal) (cs : List RefusalCause) → b ≡ false → first_cause (cause b r ∷ cs) ≡ first_cause cs
 cause_past b r cs e = ap (λ (t : Bool). if t then Some r else first_cause cs) e
 
-pub cause_hits : (b : Bool) (r : Refusal) (cs : List Cause) → b ≡ true → first_cause (cause b r ∷ cs) ≡ Some r
+pub cause_hits : (b : Bool) (r : Refusal) (cs : List RefusalCause) → b ≡ true → first_cause (cause b r ∷ cs) ≡ Some r
 cause_hits b r cs e = ap (λ (t : Bool). if t then Some r else first_cause cs) e
 
 -- not 0, or above 0
@@ -108,14 +108,14 @@ local_world w (At a Event.Leave) = (refl, refl)
 module _ (w : World) where
   -- what is tested of a lock call first, and then
   pub record Locking (a : ℕ) (p : Process) (r : Text) (e : WorldEvent) : Type 0 where
-    pub more : List Cause
+    pub more : List RefusalCause
     pub no_dead : has_cause (is_kind 2) more ≡ false
     pub no_busy : has_cause (is_kind 3) more ≡ false
     pub no_global : has_cause (is_kind 4) more ≡ false
     pub causes : local_causes w e ≡ lock_causes a (w.node a) p r ++ more
 
   -- what is tested of it behind its process
-  abbrev pub second : ℕ → Process → Text → List Cause → List Cause
+  abbrev pub second : ℕ → Process → Text → List RefusalCause → List RefusalCause
   second a p r more = cause (is_some (call_of p (w.node a).calls)) (Busy p) ∷ cause (r == global_resource) Reserved
       ∷ more
 
@@ -221,7 +221,7 @@ module _ (w : World) where
   only_joins (Deliver f t) h = absurd (never_caused (is_kind 9) (local_causes w (Deliver f t)) AlreadyJoined refl refl h)
 
   -- the numbers are looked at last
-  last_cause : (a : ℕ) (cs : List Cause) → has_cause (is_kind 10) cs ≡ false
+  last_cause : (a : ℕ) (cs : List RefusalCause) → has_cause (is_kind 10) cs ≡ false
       → first_cause (cs ++ calls_spent (w.node a) ∷ []) ≡ Some CallsSpent → ((w.node a).last_call == last_u32) ≡ true
   last_cause a [] n e = (cause_here (is_kind 10) ((w.node a).last_call == last_u32) CallsSpent [] CallsSpent refl refl e).0
   last_cause a (c ∷ cs) n e = last_cause a cs parts.1
@@ -231,7 +231,7 @@ module _ (w : World) where
       parts = neither (is_kind 10 c.refusal) (has_cause (is_kind 10) cs) n
 
   -- and where they are spent, something speaks against the call
-  pub some_cause : (a : ℕ) (cs : List Cause) → ((w.node a).last_call == last_u32) ≡ true
+  pub some_cause : (a : ℕ) (cs : List RefusalCause) → ((w.node a).last_call == last_u32) ≡ true
       → first_cause (cs ++ calls_spent (w.node a) ∷ []) ≡ None → ⊥
   some_cause a [] s e = cc (cause_hits ((w.node a).last_call == last_u32) CallsSpent [] s, e)
   some_cause a (c ∷ cs) s e = go c.stands e (some_cause a cs s)
@@ -243,7 +243,7 @@ module _ (w : World) where
 
   -- what a numbered call is refused for before that
   pub record Counting (a : ℕ) (call : Call) : Type 0 where
-    pub first : List Cause
+    pub first : List RefusalCause
     pub others : has_cause (is_kind 10) first ≡ false
     pub causes : local_causes w (At a (Event.Calling call)) ≡ first ++ calls_spent (w.node a) ∷ []
 

@@ -6,7 +6,7 @@ use Rattle.std.proofs.lemmas.Bool.{eqb-true, eqb-false, eq-eqb, ne_eqb}
 use Rattle.registry_model.specs.Process.{Text, Process}
 use Rattle.protocol_model.specs.Watch.{is_live}
 use Rattle.protocol_model.specs.Node.{Target, All, Named, Retries, call_of}
-use Rattle.protocol_model.specs.Event.{Call, Event, Refusal, NotLive, Busy, Reserved, UnknownNode, Cause, cause, first_cause, lock_causes, calls_spent, names_members, global_resource}
+use Rattle.protocol_model.specs.Event.{Call, Event, Refusal, NotLive, Busy, Reserved, UnknownNode, RefusalCause, cause, first_cause, lock_causes, calls_spent, names_members, global_resource}
 use Rattle.protocol_model.specs.World.{Opening, World, WorldEvent, At, left, refusal, local_causes}
 use Rattle.protocol_model.specs.Course.{Played, Seen, standing, seen}
 use Rattle.protocol_model.specs.Refusals.{FindsItsNode, IsLockCall, Sets, IsLiveAt, NamesStranger, HasOpenCall, IsOfBusy, IsForGlobal, IsForStranger}
@@ -29,7 +29,7 @@ module _ (o : Opening) (ps : List Played) (w : World) (departed : (d : ℕ) → 
   Found e = FindsItsNode o ps now e
 
   -- a lock call of a live process is refused for what comes then
-  past_live : (e : WorldEvent) (a : ℕ) (p : Process) (r : Text) (more : List Cause) → Found e → IsLiveAt now a p
+  past_live : (e : WorldEvent) (a : ℕ) (p : Process) (r : Text) (more : List RefusalCause) → Found e → IsLiveAt now a p
       → local_causes w e ≡ lock_causes a (w.node a) p r ++ more → refusal o w e ≡ first_cause (second w a p r more)
   past_live e a p r more F live causes = Refusals.as_local o ps w departed S e F ∙ ap first_cause causes
       ∙ cause_past (not (is_live a (w.node a).watch p)) (NotLive p) (second w a p r more)
@@ -76,7 +76,7 @@ module _ (o : Opening) (ps : List Played) (w : World) (departed : (d : ℕ) → 
       (cause (B.resource == global_resource) Reserved ∷ L.more) (V.shows B.node p B.live B.busy)
 
   -- one of a live process that has no other is refused for what comes then
-  past_busy : (e : WorldEvent) (a : ℕ) (p : Process) (r : Text) (more : List Cause) → Found e → IsLiveAt now a p
+  past_busy : (e : WorldEvent) (a : ℕ) (p : Process) (r : Text) (more : List RefusalCause) → Found e → IsLiveAt now a p
       → (HasOpenCall ps a p → ⊥) → local_causes w e ≡ lock_causes a (w.node a) p r ++ more
       → refusal o w e ≡ first_cause (cause (r == global_resource) Reserved ∷ more)
   past_busy e a p r more F live idle causes = go (is_some (call_of p (w.node a).calls)) refl
@@ -88,7 +88,7 @@ module _ (o : Opening) (ps : List Played) (w : World) (departed : (d : ℕ) → 
           (cause (r == global_resource) Reserved ∷ more) k
 
   -- and where it is refused for that, its process is live
-  behind_busy : (k : ℕ) (a : ℕ) (p : Process) (r : Text) (more : List Cause) (q : Refusal) → (2 == k) ≡ false
+  behind_busy : (k : ℕ) (a : ℕ) (p : Process) (r : Text) (more : List RefusalCause) (q : Refusal) → (2 == k) ≡ false
       → (3 == k) ≡ false → is_kind k q ≡ true → first_cause (lock_causes a (w.node a) p r ++ more) ≡ Some q
       → IsLiveAt now a p × (first_cause (cause (r == global_resource) Reserved ∷ more) ≡ Some q)
   behind_busy k a p r more q two three i h =
@@ -176,7 +176,7 @@ module _ (o : Opening) (ps : List Played) (w : World) (departed : (d : ℕ) → 
           × (e ≡ At a (Event.Calling (Call.SetLock p r z target retries)))
       x = only_sets w e F.1
 
-      more : List Cause
+      more : List RefusalCause
       more = cause (not (names_members (w.node x.0) x.4)) UnknownNode ∷ calls_spent (w.node x.0) ∷ []
 
       B : IsLiveAt now x.0 x.1 × (first_cause (cause (x.2 == global_resource) Reserved ∷ more) ≡ Some UnknownNode)
@@ -192,7 +192,7 @@ module _ (o : Opening) (ps : List Played) (w : World) (departed : (d : ℕ) → 
       ∙ cause_hits (not (names_members (w.node S.node) S.target)) UnknownNode (calls_spent (w.node S.node) ∷ [])
       (ap not unknown)
     where
-      more : List Cause
+      more : List RefusalCause
       more = cause (not (names_members (w.node S.node) S.target)) UnknownNode ∷ calls_spent (w.node S.node) ∷ []
 
       N : NamesStranger now S.node S.target

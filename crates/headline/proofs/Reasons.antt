@@ -5,7 +5,7 @@ use Rattle.std.proofs.lemmas.Bool.{eqb-true, eq-eqb, ltb-true, ltb-false}
 use Rattle.registry_model.specs.History.{Standing}
 use Rattle.protocol_model.specs.Watch.{next_serial}
 use Rattle.protocol_model.specs.Fit.{is_numbered}
-use Rattle.protocol_model.specs.Event.{Call, Event, Refusal, NodeLeft, NoSuchNode, AlreadyJoined, SerialsSpent, CallsSpent, Cause, cause, first_cause, calls_spent, has_joined, last_u32}
+use Rattle.protocol_model.specs.Event.{Call, Event, Refusal, NodeLeft, NoSuchNode, AlreadyJoined, SerialsSpent, CallsSpent, RefusalCause, cause, first_cause, calls_spent, has_joined, last_u32}
 use Rattle.protocol_model.specs.World.{Opening, World, WorldEvent, At, place, left, refusal, local_causes}
 use Rattle.protocol_model.specs.Course.{Played, standing, seen}
 use Rattle.protocol_model.specs.Answers.{IsNextProcess}
@@ -117,9 +117,9 @@ module _ (o : Opening) (ps : List Played) (w : World) (departed : (d : ℕ) → 
       go (Some r) h = ap (λ (r : Refusal). Some r) (B.only r h)
       go None h = absurd (some_cause w B.node (before e C.first)
           (eq-eqb (w.node B.node).last_call last_u32 (S.given.kept.book.count B.node ∙ B.spent))
-          (ap (λ (cs : List Cause). first_cause (before e cs)) (sym (ap (local_causes w) B.called ∙ C.causes)) ∙ h))
+          (ap (λ (cs : List RefusalCause). first_cause (before e cs)) (sym (ap (local_causes w) B.called ∙ C.causes)) ∙ h))
         where
-          before : WorldEvent → List Cause → List Cause
+          before : WorldEvent → List RefusalCause → List RefusalCause
           before e cs = cause (Refusals.outside o ps w departed S e) NoSuchNode ∷ cause (left w (place e)) NodeLeft ∷ cs
 
   -- all this together

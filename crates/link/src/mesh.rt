@@ -19,9 +19,9 @@ pub struct Mesh<L> {
 }
 
 impl<L> Model for Mesh<L> {
-    ghost use Rattle.link.specs.Held.{Held, IsWhole};
+    ghost use Rattle.link.specs.Held.{HeldMesh, IsWhole};
 
-    ghost Value = { Held L };
+    ghost Value = { HeldMesh L };
 
     ghost view = { λ m. record { nodes = m.nodes.items; links = m.links.items; closed = m.closed } };
 

@@ -13,7 +13,7 @@ use Rattle.protocol_model.specs.LockTable.{Grant, Locks, is_grant_of, count, las
 use Rattle.protocol_model.specs.Round.{Out, Later, Owes, is_empty, begin, greatest}
 use Rattle.protocol_model.specs.Watch.{is_dead, is_live}
 use Rattle.protocol_model.specs.Node.{LockPhase, LockCall, Target, Times, targets, call_of, put_call, drop_call}
-use Rattle.protocol_model.specs.Event.{Answer, NoSuchNode, NodeLeft, NotLive, Busy, Cause, cause, first_cause, names_members, calls_spent, UnknownNode, Reserved, global_resource}
+use Rattle.protocol_model.specs.Event.{Answer, NoSuchNode, NodeLeft, NotLive, Busy, RefusalCause, cause, first_cause, names_members, calls_spent, UnknownNode, Reserved, global_resource}
 use Rattle.protocol_model.specs.Turn.{Turn, begun, count_call}
 use Rattle.protocol_model.specs.Registrar.{start}
 use Rattle.protocol_model.specs.Client.{in_phase, new_call, try_lock, ask_lock, close_call}
@@ -55,7 +55,7 @@ is_called : (o : Opening) (w : World) (p : Process) (r z : Text) (target : Targe
 is_called o w p r z target h = go (in_world o p.node) (left w p.node) (is_live p.node (w.node p.node).watch p)
     (call_at w p) refl refl refl refl h
   where
-    more : List Cause
+    more : List RefusalCause
     more = cause (r == global_resource) Reserved
         ∷ cause (not (names_members (w.node p.node) target)) UnknownNode ∷ calls_spent (w.node p.node) ∷ []
 

@@ -7,16 +7,16 @@ use Rattle.lock_calls.specs.declared.call.LockCall.{LockCall}
 use Rattle.lock_calls.specs.Calls.{as_call}
 
 -- the calls of the processes of a node, rising by serial
-pub record Held : Type 0 where
+pub record HeldCalls : Type 0 where
   pub node : ℕ
   pub calls : List LockCall
 
 -- the calls as the protocol has them
-abbrev pub seen : Held → List AnyCall
+abbrev pub seen : HeldCalls → List AnyCall
 seen h = map as_call h.calls
 
 -- no call of node a
-abbrev pub none_at : ℕ → Held
+abbrev pub none_at : ℕ → HeldCalls
 none_at a = record { node = a; calls = [] }
 
 -- the call is of the process of node a that has this serial

@@ -27,9 +27,9 @@ pub struct LockCalls {
 
 impl Model for LockCalls {
     ghost use Rattle.std.specs.BTreeMap.{values};
-    ghost use Rattle.lock_calls.specs.Held.{Held, IsFiled};
+    ghost use Rattle.lock_calls.specs.Held.{HeldCalls, IsFiled};
 
-    ghost Value = { Held };
+    ghost Value = { HeldCalls };
 
     ghost view = { λ l. record { node = l.node; calls = values l.calls } };
 

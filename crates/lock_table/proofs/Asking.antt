@@ -12,14 +12,14 @@ use Rattle.protocol_model.specs.Letter.{Id, Global, Client, is_resource}
 use Rattle.protocol_model.specs.LockTable.{Grant, Locks, count, is_grant_of, is_in_the_way, last_count, refused_for}
 use Rattle.protocol_model.proofs.Ids.{is_resource_swap}
 use Rattle.term.specs.declared.lock_id.LockId.{LockId}
-use Rattle.lock_table.specs.Filed.{Entry, IsFiled, first_grant, grant_of, held_at, is_key, listed}
+use Rattle.lock_table.specs.Filed.{FiledGrant, IsFiled, first_grant, grant_of, held_at, is_key, listed}
 use Rattle.lock_table.specs.Ids.{id_of, requester_of}
 use Rattle.lock_table.specs.Sharers.{IsOpen, IsShared, IsUnder, Shared}
 use Rattle.lock_table.specs.Sound.{IsSound}
 use Rattle.lock_table.specs.Verdicts.{verdict_of, asked, IsFirstGrant}
 use Rattle.lock_table.specs.declared.grant.Key.{Key}
-use Rattle.lock_table.specs.declared.grant.Held.{Held}
-use Rattle.lock_table.specs.declared.grant.Place.{Place}
+use Rattle.lock_table.specs.declared.grant.HeldLock.{HeldLock}
+use Rattle.lock_table.specs.declared.grant.GrantPlace.{GrantPlace}
 use Rattle.lock_table.specs.Index.{IsIndexed, is_under}
 use Rattle.lock_table.specs.declared.verdict.Verdict.TheVariants.{Refuse}
 use Rattle.lock_table.proofs.Facts.{both}
@@ -81,14 +81,14 @@ refused_under id p t g s at way = go (find (is_in_the_way id) t) refl
         (rw e (ap Refuse same), rw e refl)
 
 -- What is filed, and one that asks
-module _ (n : ℕ) (m : List Entry) (filed : IsFiled n m) (shared : Shared) (sh : IsShared m shared) (lock : LockId)
+module _ (n : ℕ) (m : List FiledGrant) (filed : IsFiled n m) (shared : Shared) (sh : IsShared m shared) (lock : LockId)
     (p : Process) where
   abbrev Table : Locks
   Table = listed n m
 
-  listed-entry : (e : Entry) → Contains m e → Contains Table (grant_of e)
+  listed-entry : (e : FiledGrant) → Contains m e → Contains Table (grant_of e)
   listed-entry e at =
-      All-contains (λ (x : Entry). Contains Table (grant_of x)) m e (listed-all n m filed.below) at
+      All-contains (λ (x : FiledGrant). Contains Table (grant_of x)) m e (listed-all n m filed.below) at
 
   -- another requester has the resource
   pub refused_other : (r : Text) → IsUnder lock.resource r shared × ((r == lock.requester) ≡ false)
@@ -106,12 +106,12 @@ module _ (n : ℕ) (m : List Entry) (filed : IsFiled n m) (shared : Shared) (sh 
 
   -- none has
   no_other : IsOpenTo lock.resource m lock.requester
-      → All (λ (e : Entry). ((e.0.resource == lock.resource)
+      → All (λ (e : FiledGrant). ((e.0.resource == lock.resource)
       && not (e.1.requester == lock.requester)) ≡ false) m
   no_other (inl none) i d l = rw (none i d l) refl
   no_other (inr h) i d l = go (e.0.resource == lock.resource) refl
     where
-      e : Entry
+      e : FiledGrant
       e = get_or m i d
 
       go : (b : Bool) → (e.0.resource == lock.resource) ≡ b → (b && not (e.1.requester == lock.requester)) ≡ false
@@ -127,7 +127,7 @@ module _ (n : ℕ) (m : List Entry) (filed : IsFiled n m) (shared : Shared) (sh 
           rw (eq-eqb e.1.requester lock.requester own) refl
 
   module _ (may : IsOpen lock.resource lock.requester shared) (k : Key) (under : k ≡ key_of lock p) where
-    none_other : All (λ (e : Entry). ((e.0.resource == lock.resource)
+    none_other : All (λ (e : FiledGrant). ((e.0.resource == lock.resource)
         && not (e.1.requester == lock.requester)) ≡ false) m
     none_other = no_other (open-filed m shared sh lock.resource lock.requester filed.once may)
 
@@ -139,13 +139,13 @@ module _ (n : ℕ) (m : List Entry) (filed : IsFiled n m) (shared : Shared) (sh 
     free : count (id_of lock) p Table < last_count → refused_for (id_of lock) p Table ≡ None
     free room = rw (clear, lt-ltb (count (id_of lock) p Table) last_count room) refl
 
-    module _ (v : Held) (found : Some v ≡ held_at m k) where
+    module _ (v : HeldLock) (found : Some v ≡ held_at m k) where
       at : held_at m (key_of lock p) ≡ Some v
       at = found_under m lock p k (Some v) under found
 
       pub own : v.requester ≡ lock.requester
       own =
-          let clear_here = All-contains (λ (e : Entry). ((e.0.resource == lock.resource)
+          let clear_here = All-contains (λ (e : FiledGrant). ((e.0.resource == lock.resource)
           && not (e.1.requester == lock.requester)) ≡ false) m (key_of lock p, v) none_other
           (Contains-from_lookup exact (key_of lock p) v m at) in
           eqb-true v.requester lock.requester
@@ -165,7 +165,7 @@ module _ (n : ℕ) (m : List Entry) (filed : IsFiled n m) (shared : Shared) (sh 
       pub verdict-full : v.count ≡ last_count → Refuse lock.requester ≡ verdict_of (refused_for (id_of lock) p Table)
       verdict-full full = rw (clear, held ∙ full) (ap Refuse (sym (requester_of-id_of lock)))
 
-      pub asked-full : v.count ≡ last_count → (es : List Entry) → es ≡ set_value (is_key k) m v
+      pub asked-full : v.count ≡ last_count → (es : List FiledGrant) → es ≡ set_value (is_key k) m v
           → listed n es ≡ asked (id_of lock) p Table
       asked-full full es e =
           ap (listed n) (written-same n m filed lock p k under v found es e) ∙ rw (clear, held ∙ full) refl
@@ -173,7 +173,7 @@ module _ (n : ℕ) (m : List Entry) (filed : IsFiled n m) (shared : Shared) (sh 
       pub free-held : v.count < last_count → refused_for (id_of lock) p Table ≡ None
       free-held room = free (omega (arith, room, held))
 
-      pub kept-more : (x : BTreeMap Place Text) → IsIndexed m x → v.count < last_count → (es : List Entry)
+      pub kept-more : (x : BTreeMap GrantPlace Text) → IsIndexed m x → v.count < last_count → (es : List FiledGrant)
           → es ≡ set_value (is_key k) m (record v { count = v.count + 1 })
           → (IsSome (held_at m k) → Sets k (Some (record v { count = v.count + 1 })) m es)
           → IsFiled n es × IsIndexed es x × IsShared es shared
@@ -181,7 +181,7 @@ module _ (n : ℕ) (m : List Entry) (filed : IsFiled n m) (shared : Shared) (sh 
           kept-written n m filed lock p k under v found own x shared ix sh (v.count + 1) es (omega arith)
           (omega (arith, room)) e sets
 
-      pub asked-more : v.count < last_count → (es : List Entry)
+      pub asked-more : v.count < last_count → (es : List FiledGrant)
           → es ≡ set_value (is_key k) m (record v { count = v.count + 1 })
           → listed n es ≡ asked (id_of lock) p Table
       asked-more room es e =
@@ -205,7 +205,7 @@ module _ (n : ℕ) (m : List Entry) (filed : IsFiled n m) (shared : Shared) (sh 
       absent_under =
           All-listed (λ g. is_under k g ≡ false) n m
           (λ i d l. is_under-entry k (get_or m i d)
-          ∙ All-from_recursion (λ (e : Entry). is_key k e.0 ≡ false) m
+          ∙ All-from_recursion (λ (e : FiledGrant). is_key k e.0 ≡ false) m
           (none_passes_from_lookup (is_key k) m (sym absent)) i d l)
 
       pub clear_first : All (λ g. is_in_the_way (first_grant k lock.requester).id g ≡ false) Table

@@ -11,8 +11,8 @@ use Rattle.std.proofs.lemmas.Map.Views.{Contains-from_lookup}
 use Rattle.registry_model.specs.Process.{Process, Text, is_process}
 use Rattle.protocol_model.specs.LockTable.{Grant, Locks}
 use Rattle.lock_table.specs.declared.grant.Key.{Key}
-use Rattle.lock_table.specs.declared.grant.Place.{Place}
-use Rattle.lock_table.specs.Filed.{Entry, IsFiled, grant_of, held_at, listed}
+use Rattle.lock_table.specs.declared.grant.GrantPlace.{GrantPlace}
+use Rattle.lock_table.specs.Filed.{FiledGrant, IsFiled, grant_of, held_at, listed}
 use Rattle.lock_table.specs.Index.{IsFirstFrom, IsFrom, IsIndexed, IsListedUnder, IsNoneFrom, place_at, place_cmp}
 use Rattle.lock_table.proofs.Changes.{same_process}
 use Rattle.lock_table.proofs.Keys.{All-held, exact, is_key_self}
@@ -20,7 +20,7 @@ use Rattle.lock_table.proofs.Listed.{All-listed, listed-all}
 use Rattle.lock_table.proofs.Removal.{is_under-entry}
 
 -- a place on a later node, or on the same and then of a later serial
-from_node : (a b : Place) → IsFrom a b → a.holder.node ≤ b.holder.node
+from_node : (a b : GrantPlace) → IsFrom a b → a.holder.node ≤ b.holder.node
 from_node a b h = go (nat_cmp a.holder.node b.holder.node) refl h
   where
     go : (o : Ordering) → nat_cmp a.holder.node b.holder.node ≡ o
@@ -36,7 +36,7 @@ nat_equal a b same = rw (le-ltb a b (omega (arith, same)), eq-eqb a b same) refl
 nat_less : (a b : ℕ) → a < b → nat_cmp a b ≡ Less
 nat_less a b l = rw (lt-ltb a b l) refl
 
-from_serial : (a b : Place) → IsFrom a b → a.holder.node ≡ b.holder.node → a.holder.serial ≤ b.holder.serial
+from_serial : (a b : GrantPlace) → IsFrom a b → a.holder.node ≡ b.holder.node → a.holder.serial ≤ b.holder.serial
 from_serial a b h same =
     go (nat_cmp a.holder.serial b.holder.serial) refl
     (subst (λ (o : Ordering). is_gt (ordering_then (ordering_then o (nat_cmp a.holder.serial b.holder.serial))
@@ -61,7 +61,7 @@ zero_first n = elim (cases_order 0 n) [
 ]
 
 -- all that stands at the node, from the serial on, comes from the first place of that serial on
-begins : (h : Process) (q : Place) → q.holder.node ≡ h.node → h.serial ≤ q.holder.serial → IsFrom (place_at h 0) q
+begins : (h : Process) (q : GrantPlace) → q.holder.node ≡ h.node → h.serial ≤ q.holder.serial → IsFrom (place_at h 0) q
 begins h q node serial =
     ap (λ (o : Ordering). is_gt (ordering_then (ordering_then o (nat_cmp h.serial q.holder.serial))
     (nat_cmp 0 q.number))) (nat_equal h.node q.holder.node (sym node))
@@ -77,17 +77,17 @@ begins h q node serial =
     ]
 
 -- What is filed, and where it stands
-module _ (n : ℕ) (m : List Entry) (x : BTreeMap Place Text)
+module _ (n : ℕ) (m : List FiledGrant) (x : BTreeMap GrantPlace Text)
     (good : IsFiled n m × IsIndexed m x) where
   abbrev Table : Locks
   Table = listed n m
 
   -- what stands somewhere is listed
-  pub listed_under : (a : Place) (k : Key) → IsFirstFrom x a k → IsListedUnder k Table
+  pub listed_under : (a : GrantPlace) (k : Key) → IsFirstFrom x a k → IsListedUnder k Table
   listed_under a k first =
       let h = good.1.filed (place_at k.holder first.0) k.resource first.1 in (
         grant_of (k, h.0),
-        All-contains (λ (y : Entry). Contains Table (grant_of y)) m (k, h.0)
+        All-contains (λ (y : FiledGrant). Contains Table (grant_of y)) m (k, h.0)
             (listed-all n m good.0.below) (Contains-from_lookup exact k h.0 m h.1),
         is_under-entry k (k, h.0) ∙ is_key_self k,
       )
@@ -97,28 +97,28 @@ module _ (n : ℕ) (m : List Entry) (x : BTreeMap Place Text)
     abbrev NoneHolds : Type 0
     NoneHolds = All (λ (g : Grant). test g.holder ≡ false) Table
 
-    unheld : ((q : Place) → test q.holder ≡ true → get place_cmp x q ≡ None) → NoneHolds
+    unheld : ((q : GrantPlace) → test q.holder ≡ true → get place_cmp x q ≡ None) → NoneHolds
     unheld none =
         All-listed (λ (g : Grant). test g.holder ≡ false) n m
-        (All-weaker (λ (e : Entry). held_at m e.0 ≡ Some e.1) (λ (e : Entry). test e.0.holder ≡ false)
+        (All-weaker (λ (e : FiledGrant). held_at m e.0 ≡ Some e.1) (λ (e : FiledGrant). test e.0.holder ≡ false)
         one m (All-held m good.0.once))
       where
-        one : (e : Entry) → held_at m e.0 ≡ Some e.1 → test e.0.holder ≡ false
+        one : (e : FiledGrant) → held_at m e.0 ≡ Some e.1 → test e.0.holder ≡ false
         one e f = go (test e.0.holder) refl
           where
             go : (b : Bool) → test e.0.holder ≡ b → test e.0.holder ≡ false
             go true i = absurd (cc (none (place_at e.0.holder e.1.number) i, good.1.placed e.0 e.1 f))
             go false i = i
 
-    module _ (a : Place) (from : (q : Place) → test q.holder ≡ true → IsFrom a q) where
+    module _ (a : GrantPlace) (from : (q : GrantPlace) → test q.holder ≡ true → IsFrom a q) where
       unheld_none : IsNoneFrom x a → NoneHolds
       unheld_none none = unheld (λ q i. none q (from q i))
 
-      unheld_first : ((p q : Place) → IsFrom a p → IsFrom p q → test q.holder ≡ true → test p.holder ≡ true)
+      unheld_first : ((p q : GrantPlace) → IsFrom a p → IsFrom p q → test q.holder ≡ true → test p.holder ≡ true)
           → (k : Key) → IsFirstFrom x a k → test k.holder ≡ false → NoneHolds
       unheld_first between k first other = unheld (λ q i. go q i (get place_cmp x q) refl)
         where
-          go : (q : Place) → test q.holder ≡ true → (o : Option Text) → get place_cmp x q ≡ o
+          go : (q : GrantPlace) → test q.holder ≡ true → (o : Option Text) → get place_cmp x q ≡ o
               → get place_cmp x q ≡ None
           go q i None e = e
           go q i (Some r) e =
@@ -130,13 +130,13 @@ module _ (n : ℕ) (m : List Entry) (x : BTreeMap Place Text)
 
   -- of one holder
   module _ (h : Process) where
-    own_from : (q : Place) → is_process q.holder h ≡ true → IsFrom (place_at h 0) q
+    own_from : (q : GrantPlace) → is_process q.holder h ≡ true → IsFrom (place_at h 0) q
     own_from q i =
         let same = same_process q.holder h i in
         begins h q (ap (λ (p : Process). p.node) same)
         (omega (arith, ap (λ (p : Process). p.serial) same))
 
-    own_between : (p q : Place) → IsFrom (place_at h 0) p → IsFrom p q → is_process q.holder h ≡ true
+    own_between : (p q : GrantPlace) → IsFrom (place_at h 0) p → IsFrom p q → is_process q.holder h ≡ true
         → is_process p.holder h ≡ true
     own_between p q f g i =
         let same = same_process q.holder h i in
@@ -160,13 +160,13 @@ module _ (n : ℕ) (m : List Entry) (x : BTreeMap Place Text)
 
   -- of one node
   module _ (d : ℕ) where
-    abbrev Start : Place
+    abbrev Start : GrantPlace
     Start = place_at (record { node = d; serial = 0 }) 0
 
-    on_from : (q : Place) → (q.holder.node == d) ≡ true → IsFrom Start q
+    on_from : (q : GrantPlace) → (q.holder.node == d) ≡ true → IsFrom Start q
     on_from q i = begins (record { node = d; serial = 0 }) q (eqb-true q.holder.node d i) (omega arith)
 
-    on_between : (p q : Place) → IsFrom Start p → IsFrom p q → (q.holder.node == d) ≡ true
+    on_between : (p q : GrantPlace) → IsFrom Start p → IsFrom p q → (q.holder.node == d) ≡ true
         → (p.holder.node == d) ≡ true
     on_between p q f g i =
         eq-eqb p.holder.node d

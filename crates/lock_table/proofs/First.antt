@@ -15,9 +15,9 @@ use Rattle.registry_model.specs.Process.{Text}
 use Rattle.protocol_model.specs.LockTable.{Grant, is_in_the_way}
 use Rattle.term.specs.declared.lock_id.LockId.{LockId}
 use Rattle.lock_table.specs.declared.grant.Key.{Key}
-use Rattle.lock_table.specs.declared.grant.Held.{Held}
-use Rattle.lock_table.specs.declared.grant.Place.{Place}
-use Rattle.lock_table.specs.Filed.{Entry, IsFiled, first_grant, grant_of, held_at, is_key, listed, numbers_of}
+use Rattle.lock_table.specs.declared.grant.HeldLock.{HeldLock}
+use Rattle.lock_table.specs.declared.grant.GrantPlace.{GrantPlace}
+use Rattle.lock_table.specs.Filed.{FiledGrant, IsFiled, first_grant, grant_of, held_at, is_key, listed, numbers_of}
 use Rattle.lock_table.specs.Index.{IsIndexed, is_under, place_at}
 use Rattle.lock_table.specs.Sharers.{IsShared, Joins, Shared, grants_in, sharers_of}
 use Rattle.lock_table.specs.Sound.{IsSound}
@@ -30,20 +30,20 @@ use Rattle.lock_table.proofs.Sharing.{countable, shared-first}
 use Rattle.lock_table.proofs.Soundness.{sound-push}
 
 -- a number that is there is below n
-below_any : (n : ℕ) (es : List Entry) → All (λ (e : Entry). e.1.number < n) es → (j : ℕ)
+below_any : (n : ℕ) (es : List FiledGrant) → All (λ (e : FiledGrant). e.1.number < n) es → (j : ℕ)
     → list_any (λ b. j == b) (numbers_of es) ≡ true → j < n
 below_any n [] below j h = absurd (cc h)
 below_any n (e ∷ es) below j h =
-    go (j == e.1.number) refl h (below_any n es (All-tail (λ (x : Entry). x.1.number < n) e es below) j)
+    go (j == e.1.number) refl h (below_any n es (All-tail (λ (x : FiledGrant). x.1.number < n) e es below) j)
   where
     go : (b : Bool) → (j == e.1.number) ≡ b → (b || list_any (λ c. j == c) (numbers_of es)) ≡ true
         → (list_any (λ c. j == c) (numbers_of es) ≡ true → j < n) → j < n
     go true i f rest =
         subst (λ (a : ℕ). a < n) (sym (eqb-true j e.1.number i))
-        (All-head (λ (x : Entry). x.1.number < n) e es below)
+        (All-head (λ (x : FiledGrant). x.1.number < n) e es below)
     go false i f rest = rest f
 
-module _ (n : ℕ) (m : List Entry) (filed : IsFiled n m) (shared : Shared) (sh : IsShared m shared) where
+module _ (n : ℕ) (m : List FiledGrant) (filed : IsFiled n m) (shared : Shared) (sh : IsShared m shared) where
   -- the number of grants on a resource is less than the next number
   pub countable-next : (r : Text) → grants_in (sharers_of r shared) ≤ n
   countable-next r =
@@ -54,13 +54,13 @@ module _ (n : ℕ) (m : List Entry) (filed : IsFiled n m) (shared : Shared) (sh 
         arith,
         few,
         numbers,
-        length-map m (λ (e : Entry). e.1.number),
-        length-map m (λ (e : Entry). e.0),
+        length-map m (λ (e : FiledGrant). e.1.number),
+        length-map m (λ (e : FiledGrant). e.0),
       )
 
   module _ (k : Key) (q : Text) (absent : All (λ (g : Grant). is_under k g ≡ false) (listed n m))
       (free : All (λ (g : Grant). is_in_the_way (first_grant k q).id g ≡ false) (listed n m)) where
-    abbrev First : Held
+    abbrev First : HeldLock
     First = record { requester = q; count = 1; number = n }
 
     abbrev Lock : LockId
@@ -69,16 +69,16 @@ module _ (n : ℕ) (m : List Entry) (filed : IsFiled n m) (shared : Shared) (sh 
     pub held-none : held_at m k ≡ None
     held-none = go (held_at m k) refl
       where
-        go : (o : Option Held) → held_at m k ≡ o → held_at m k ≡ None
+        go : (o : Option HeldLock) → held_at m k ≡ o → held_at m k ≡ None
         go None e = e
         go (Some v) e =
             let at : Contains (listed n m) (grant_of (k, v)) =
-            All-contains (λ (x : Entry). Contains (listed n m) (grant_of x)) m (k, v) (listed-all n m filed.below)
+            All-contains (λ (x : FiledGrant). Contains (listed n m) (grant_of x)) m (k, v) (listed-all n m filed.below)
             (Contains-from_lookup exact k v m e) in
             let no = All-contains (λ (g : Grant). is_under k g ≡ false) (listed n m) (grant_of (k, v)) absent at in
             absurd (cc (no, is_under-entry k (k, v), is_key_self k))
 
-    entries_free : All (λ (x : Entry). ((x.0.resource == k.resource) && not (x.1.requester == q)) ≡ false) m
+    entries_free : All (λ (x : FiledGrant). ((x.0.resource == k.resource) && not (x.1.requester == q)) ≡ false) m
     entries_free i d l =
         sym (is_in_the_way-entry Lock (get_or m i d))
         ∙ All-contains (λ (g : Grant). is_in_the_way (first_grant k q).id g ≡ false) (listed n m)
@@ -100,31 +100,31 @@ module _ (n : ℕ) (m : List Entry) (filed : IsFiled n m) (shared : Shared) (sh 
     filed-first once = record {
       once = once;
       numbered_once = subst (IsDistinct (λ a b. a == b))
-          (sym (map-append (λ (e : Entry). e.1.number) m ((k, First) ∷ [])))
+          (sym (map-append (λ (e : FiledGrant). e.1.number) m ((k, First) ∷ [])))
           (IsDistinct-push nat_eq_equiv (numbers_of m) n filed.numbered_once number_new);
-      below = All-push (λ (x : Entry). x.1.number < n + 1) m (k, First)
-          (All-weaker (λ (x : Entry). x.1.number < n) (λ (x : Entry). x.1.number < n + 1)
+      below = All-push (λ (x : FiledGrant). x.1.number < n + 1) m (k, First)
+          (All-weaker (λ (x : FiledGrant). x.1.number < n) (λ (x : FiledGrant). x.1.number < n + 1)
           (λ x l. omega (arith, l)) m filed.below) (omega arith);
       sound = subst IsSound (sym listed-first)
           (sound-push (first_grant k q).id k.holder (listed n m) filed.sound free
           (never-absent n m filed Lock k.holder held-none));
     }
 
-    pub kept-first : (x y : BTreeMap Place Text) (after : Shared) → IsIndexed m x
-        → (a : Place) → a ≡ place_at k.holder n → (on : Text) → on ≡ k.resource → SetsAt a (Some on) x y
+    pub kept-first : (x y : BTreeMap GrantPlace Text) (after : Shared) → IsIndexed m x
+        → (a : GrantPlace) → a ≡ place_at k.holder n → (on : Text) → on ≡ k.resource → SetsAt a (Some on) x y
         → Joins k.resource q shared after
-        → (next : ℕ) → next ≡ n + 1 → (new : List Entry) → new ≡ m ++ (k, First) ∷ []
+        → (next : ℕ) → next ≡ n + 1 → (new : List FiledGrant) → new ≡ m ++ (k, First) ∷ []
         → IsDistinct is_key (keys_of new) → Sets k (Some First) m new
         → IsFiled next new × IsIndexed new y × IsShared new after
     kept-first x y after ix a at_a on copied fills joins next risen new pushed once sets =
         subst (λ (j : ℕ). IsFiled j new × IsIndexed new y × IsShared new after) (sym risen)
-        (subst (λ (l : List Entry). IsFiled (n + 1) l × IsIndexed l y × IsShared l after) (sym pushed) (
-          filed-first (subst (λ (l : List Entry). IsDistinct is_key (keys_of l)) pushed once),
+        (subst (λ (l : List FiledGrant). IsFiled (n + 1) l × IsIndexed l y × IsShared l after) (sym pushed) (
+          filed-first (subst (λ (l : List FiledGrant). IsDistinct is_key (keys_of l)) pushed once),
           indexed-first m (m ++ (k, First) ∷ []) x y ix k First held-none (number_below n m filed.below) set
-              (subst (λ (b : Place). SetsAt b (Some k.resource) x y) at_a
+              (subst (λ (b : GrantPlace). SetsAt b (Some k.resource) x y) at_a
               (subst (λ (r : Text). SetsAt a (Some r) x y) copied fills)),
           shared-first m shared sh k First after entries_free filed.once joins set,
         ))
       where
         set : Sets k (Some First) m (m ++ (k, First) ∷ [])
-        set = subst (λ (l : List Entry). Sets k (Some First) m l) pushed sets
+        set = subst (λ (l : List FiledGrant). Sets k (Some First) m l) pushed sets

@@ -8,16 +8,16 @@ use Rattle.std.proofs.lemmas.List.Elements.{All-contains}
 use Rattle.std.proofs.lemmas.Map.Views.{Contains-from_lookup}
 use Rattle.registry_model.specs.Process.{Process, Text, is_process}
 use Rattle.lock_table.specs.declared.grant.Key.{Key}
-use Rattle.lock_table.specs.declared.grant.Held.{Held}
-use Rattle.lock_table.specs.declared.grant.Place.{Place}
-use Rattle.lock_table.specs.Filed.{Entry, held_at, is_key}
+use Rattle.lock_table.specs.declared.grant.HeldLock.{HeldLock}
+use Rattle.lock_table.specs.declared.grant.GrantPlace.{GrantPlace}
+use Rattle.lock_table.specs.Filed.{FiledGrant, held_at, is_key}
 use Rattle.lock_table.specs.Index.{IsIndexed, place_at, place_cmp}
 use Rattle.lock_table.proofs.Changes.{same_process}
 use Rattle.lock_table.proofs.Facts.{both}
 use Rattle.lock_table.proofs.Keys.{exact, is_key_self, is_eq-nat, is_eq-then}
 
 -- a place is found where it has this holder and this number
-is_at-place : (p q : Place) → is_at (place_cmp p) q ≡ (is_process q.holder p.holder && (q.number == p.number))
+is_at-place : (p q : GrantPlace) → is_at (place_cmp p) q ≡ (is_process q.holder p.holder && (q.number == p.number))
 is_at-place p q =
     is_eq-then
     (ordering_then (nat_cmp p.holder.node q.holder.node) (nat_cmp p.holder.serial q.holder.serial))
@@ -29,13 +29,13 @@ is_at-place p q =
       is_eq-nat p.number q.number,
     ) refl
 
-place_exact : (p q : Place) → is_at (place_cmp p) q ≡ true → p ≡ q
+place_exact : (p q : GrantPlace) → is_at (place_cmp p) q ≡ true → p ≡ q
 place_exact p q h =
     let e = both (is_process q.holder p.holder) (q.number == p.number) (sym (is_at-place p q) ∙ h) in
     ap (λ (n : ℕ). record p { number = n }) (sym (eqb-true q.number p.number e.1))
     ∙ ap (λ (o : Process). record q { holder = o }) (sym (same_process q.holder p.holder e.0))
 
-is_at-place_self : (p : Place) → is_at (place_cmp p) p ≡ true
+is_at-place_self : (p : GrantPlace) → is_at (place_cmp p) p ≡ true
 is_at-place_self p = is_at-place p p
     ∙ rw (
       eq-eqb p.holder.node p.holder.node refl,
@@ -44,7 +44,7 @@ is_at-place_self p = is_at-place p p
     ) refl
 
 -- what stands at a place that is this one
-at_same : (p q : Place) (x : BTreeMap Place Text) (r : Text) → p ≡ q → get place_cmp x q ≡ Some r
+at_same : (p q : GrantPlace) (x : BTreeMap GrantPlace Text) (r : Text) → p ≡ q → get place_cmp x q ≡ Some r
     → get place_cmp x p ≡ Some r
 at_same p q x r same e = ap (get place_cmp x) same ∙ e
 
@@ -52,19 +52,19 @@ same_value : {X : Type 0} (o : Option X) (a b : X) → o ≡ Some a → o ≡ So
 same_value o a b e f = cc (e, f)
 
 -- n has w at the key k, and at the other keys what m has
-abbrev pub Sets : Key → Option Held → List Entry → List Entry → Type 0
+abbrev pub Sets : Key → Option HeldLock → List FiledGrant → List FiledGrant → Type 0
 Sets k w m n = (q : Key) → held_at n q ≡ cond (is_key k q) w (held_at m q)
 
 -- y has r at the place p, and at the other places what x has
-abbrev pub SetsAt : Place → Option Text → BTreeMap Place Text → BTreeMap Place Text → Type 0
-SetsAt p r x y = (q : Place) → get place_cmp y q ≡ cond (is_at (place_cmp p) q) r (get place_cmp x q)
+abbrev pub SetsAt : GrantPlace → Option Text → BTreeMap GrantPlace Text → BTreeMap GrantPlace Text → Type 0
+SetsAt p r x y = (q : GrantPlace) → get place_cmp y q ≡ cond (is_at (place_cmp p) q) r (get place_cmp x q)
 
-module _ (m n : List Entry) (x y : BTreeMap Place Text) (ix : IsIndexed m x) where
-  module _ (k : Key) (v : Held) where
+module _ (m n : List FiledGrant) (x y : BTreeMap GrantPlace Text) (ix : IsIndexed m x) where
+  module _ (k : Key) (v : HeldLock) where
     -- another count
-    module _ (w : Held) (found : held_at m k ≡ Some v) (same : w.number ≡ v.number)
+    module _ (w : HeldLock) (found : held_at m k ≡ Some v) (same : w.number ≡ v.number)
         (sets : Sets k (Some w) m n) where
-      placed_recount : (q : Key) (u : Held) → held_at n q ≡ Some u
+      placed_recount : (q : Key) (u : HeldLock) → held_at n q ≡ Some u
           → get place_cmp x (place_at q.holder u.number) ≡ Some q.resource
       placed_recount q u e = go (is_key k q) refl (sets q)
         where
@@ -72,27 +72,27 @@ module _ (m n : List Entry) (x y : BTreeMap Place Text) (ix : IsIndexed m x) whe
               → get place_cmp x (place_at q.holder u.number) ≡ Some q.resource
           go true i f =
               let here = same_value (held_at n q) w u f e in
-              let numbers : v.number ≡ u.number = sym same ∙ ap (λ (h : Held). h.number) here in
+              let numbers : v.number ≡ u.number = sym same ∙ ap (λ (h : HeldLock). h.number) here in
               subst (λ (z : Key). get place_cmp x (place_at z.holder u.number) ≡ Some z.resource) (exact k q i)
               (subst (λ (j : ℕ). get place_cmp x (place_at k.holder j) ≡ Some k.resource) numbers
               (ix.placed k v found))
           go false i f = ix.placed q u (sym f ∙ e)
 
-      filed_recount : (q : Place) (r : Text) → get place_cmp x q ≡ Some r
-          → (u : Held) × (held_at n (record { resource = r; holder = q.holder }) ≡ Some u) × (u.number ≡ q.number)
+      filed_recount : (q : GrantPlace) (r : Text) → get place_cmp x q ≡ Some r
+          → (u : HeldLock) × (held_at n (record { resource = r; holder = q.holder }) ≡ Some u) × (u.number ≡ q.number)
       filed_recount q r e = go (is_key k z) refl (sets z)
         where
           z : Key
           z = record { resource = r; holder = q.holder }
 
-          h : (u : Held) × (held_at m z ≡ Some u) × (u.number ≡ q.number)
+          h : (u : HeldLock) × (held_at m z ≡ Some u) × (u.number ≡ q.number)
           h = ix.filed q r e
 
           go : (b : Bool) → is_key k z ≡ b → held_at n z ≡ cond b (Some w) (held_at m z)
-              → (u : Held) × (held_at n z ≡ Some u) × (u.number ≡ q.number)
+              → (u : HeldLock) × (held_at n z ≡ Some u) × (u.number ≡ q.number)
           go true i f =
               let here = same_value (held_at m z) v h.0 (ap (held_at m) (sym (exact k z i)) ∙ found) h.1 in
-              (w, f, same ∙ ap (λ (u : Held). u.number) here ∙ h.2)
+              (w, f, same ∙ ap (λ (u : HeldLock). u.number) here ∙ h.2)
           go false i f = (h.0, f ∙ h.1, h.2)
 
       pub indexed-recount : IsIndexed n x
@@ -100,13 +100,13 @@ module _ (m n : List Entry) (x y : BTreeMap Place Text) (ix : IsIndexed m x) whe
 
     -- a first grant
     module _ (absent : held_at m k ≡ None)
-        (below : (q : Key) (u : Held) → held_at m q ≡ Some u → u.number < v.number)
+        (below : (q : Key) (u : HeldLock) → held_at m q ≡ Some u → u.number < v.number)
         (sets : Sets k (Some v) m n)
         (places : SetsAt (place_at k.holder v.number) (Some k.resource) x y) where
-      abbrev NewPlace : Place
+      abbrev NewPlace : GrantPlace
       NewPlace = place_at k.holder v.number
 
-      placed_first : (q : Key) (u : Held) → held_at n q ≡ Some u
+      placed_first : (q : Key) (u : HeldLock) → held_at n q ≡ Some u
           → get place_cmp y (place_at q.holder u.number) ≡ Some q.resource
       placed_first q u e = go (is_key k q) refl (sets q)
         where
@@ -115,7 +115,7 @@ module _ (m n : List Entry) (x y : BTreeMap Place Text) (ix : IsIndexed m x) whe
           go true i f =
               let here = same_value (held_at n q) v u f e in
               subst (λ (z : Key). get place_cmp y (place_at z.holder u.number) ≡ Some z.resource) (exact k q i)
-              (subst (λ (h : Held). get place_cmp y (place_at k.holder h.number) ≡ Some k.resource) here
+              (subst (λ (h : HeldLock). get place_cmp y (place_at k.holder h.number) ≡ Some k.resource) here
               (places NewPlace ∙ rw (is_at-place_self NewPlace) refl))
           go false i f =
               new (is_at (place_cmp NewPlace) (place_at q.holder u.number)) refl (places (place_at q.holder u.number))
@@ -127,33 +127,33 @@ module _ (m n : List Entry) (x y : BTreeMap Place Text) (ix : IsIndexed m x) whe
               new true j g =
                   let l : u.number < v.number = below q u (sym f ∙ e) in
                   let s : v.number ≡ u.number =
-                  ap (λ (z : Place). z.number) (place_exact NewPlace (place_at q.holder u.number) j) in
+                  ap (λ (z : GrantPlace). z.number) (place_exact NewPlace (place_at q.holder u.number) j) in
                   absurd (omega (arith, l, s))
               new false j g = g ∙ ix.placed q u (sym f ∙ e)
 
-      filed_first : (q : Place) (r : Text) → get place_cmp y q ≡ Some r
-          → (u : Held) × (held_at n (record { resource = r; holder = q.holder }) ≡ Some u) × (u.number ≡ q.number)
+      filed_first : (q : GrantPlace) (r : Text) → get place_cmp y q ≡ Some r
+          → (u : HeldLock) × (held_at n (record { resource = r; holder = q.holder }) ≡ Some u) × (u.number ≡ q.number)
       filed_first q r e = go (is_at (place_cmp NewPlace) q) refl (places q)
         where
           z : Key
           z = record { resource = r; holder = q.holder }
 
           go : (b : Bool) → is_at (place_cmp NewPlace) q ≡ b → get place_cmp y q ≡ cond b (Some k.resource) (get place_cmp x q)
-              → (u : Held) × (held_at n z ≡ Some u) × (u.number ≡ q.number)
+              → (u : HeldLock) × (held_at n z ≡ Some u) × (u.number ≡ q.number)
           go true i f =
               let s : NewPlace ≡ q = place_exact NewPlace q i in
               let same : k ≡ z =
               ap (λ (t : Text). record k { resource = t }) (same_value (get place_cmp y q) k.resource r f e)
-              ∙ ap (λ (o : Process). record z { holder = o }) (ap (λ (t : Place). t.holder) s) in
-              (v, ap (held_at n) (sym same) ∙ sets k ∙ rw (is_key_self k) refl, ap (λ (t : Place). t.number) s)
+              ∙ ap (λ (o : Process). record z { holder = o }) (ap (λ (t : GrantPlace). t.holder) s) in
+              (v, ap (held_at n) (sym same) ∙ sets k ∙ rw (is_key_self k) refl, ap (λ (t : GrantPlace). t.number) s)
           go false i f = old (ix.filed q r (sym f ∙ e))
             where
-              old : (u : Held) × (held_at m z ≡ Some u) × (u.number ≡ q.number)
-                  → (u : Held) × (held_at n z ≡ Some u) × (u.number ≡ q.number)
+              old : (u : HeldLock) × (held_at m z ≡ Some u) × (u.number ≡ q.number)
+                  → (u : HeldLock) × (held_at n z ≡ Some u) × (u.number ≡ q.number)
               old h = new (is_key k z) refl (sets z)
                 where
                   new : (b : Bool) → is_key k z ≡ b → held_at n z ≡ cond b (Some v) (held_at m z)
-                      → (u : Held) × (held_at n z ≡ Some u) × (u.number ≡ q.number)
+                      → (u : HeldLock) × (held_at n z ≡ Some u) × (u.number ≡ q.number)
                   new true j g = absurd (cc (absent, ap (held_at m) (exact k z j), h.1))
                   new false j g = (h.0, g ∙ h.1, h.2)
 
@@ -163,14 +163,14 @@ module _ (m n : List Entry) (x y : BTreeMap Place Text) (ix : IsIndexed m x) whe
     -- a grant is gone
     module _ (found : held_at m k ≡ Some v) (sets : Sets k None m n)
         (places : SetsAt (place_at k.holder v.number) None x y) where
-      abbrev OldPlace : Place
+      abbrev OldPlace : GrantPlace
       OldPlace = place_at k.holder v.number
 
-      placed_gone : (q : Key) (u : Held) → held_at n q ≡ Some u
+      placed_gone : (q : Key) (u : HeldLock) → held_at n q ≡ Some u
           → get place_cmp y (place_at q.holder u.number) ≡ Some q.resource
       placed_gone q u e = go (is_key k q) refl (sets q)
         where
-          t : Place
+          t : GrantPlace
           t = place_at q.holder u.number
 
           go : (b : Bool) → is_key k q ≡ b → held_at n q ≡ cond b None (held_at m q)
@@ -191,39 +191,39 @@ module _ (m n : List Entry) (x y : BTreeMap Place Text) (ix : IsIndexed m x) whe
                   (at_same OldPlace t x q.resource s was) in
                   let same : k ≡ q =
                   ap (λ (r : Text). record k { resource = r }) on
-                  ∙ ap (λ (o : Process). record q { holder = o }) (ap (λ (z : Place). z.holder) s) in
+                  ∙ ap (λ (o : Process). record q { holder = o }) (ap (λ (z : GrantPlace). z.holder) s) in
                   let self : is_key k q ≡ true =
                   subst (λ (z : Key). is_key k z ≡ true) same (is_key_self k) in
                   absurd (cc (i, self))
               new false j g = g ∙ was
 
-      filed_gone : (q : Place) (r : Text) → get place_cmp y q ≡ Some r
-          → (u : Held) × (held_at n (record { resource = r; holder = q.holder }) ≡ Some u) × (u.number ≡ q.number)
+      filed_gone : (q : GrantPlace) (r : Text) → get place_cmp y q ≡ Some r
+          → (u : HeldLock) × (held_at n (record { resource = r; holder = q.holder }) ≡ Some u) × (u.number ≡ q.number)
       filed_gone q r e = go (is_at (place_cmp OldPlace) q) refl (places q)
         where
           z : Key
           z = record { resource = r; holder = q.holder }
 
           go : (b : Bool) → is_at (place_cmp OldPlace) q ≡ b → get place_cmp y q ≡ cond b None (get place_cmp x q)
-              → (u : Held) × (held_at n z ≡ Some u) × (u.number ≡ q.number)
+              → (u : HeldLock) × (held_at n z ≡ Some u) × (u.number ≡ q.number)
           go true i f = absurd (cc (f, e))
           go false i f = old (ix.filed q r (sym f ∙ e))
             where
-              old : (u : Held) × (held_at m z ≡ Some u) × (u.number ≡ q.number)
-                  → (u : Held) × (held_at n z ≡ Some u) × (u.number ≡ q.number)
+              old : (u : HeldLock) × (held_at m z ≡ Some u) × (u.number ≡ q.number)
+                  → (u : HeldLock) × (held_at n z ≡ Some u) × (u.number ≡ q.number)
               old h = new (is_key k z) refl (sets z)
                 where
                   new : (b : Bool) → is_key k z ≡ b → held_at n z ≡ cond b None (held_at m z)
-                      → (u : Held) × (held_at n z ≡ Some u) × (u.number ≡ q.number)
+                      → (u : HeldLock) × (held_at n z ≡ Some u) × (u.number ≡ q.number)
                   new true j g =
                       let same : k ≡ z = exact k z j in
                       let here : v ≡ h.0 =
                       same_value (held_at m z) v h.0 (ap (held_at m) (sym same) ∙ found) h.1 in
                       let s : OldPlace ≡ q =
                       ap (λ (o : Process). place_at o v.number) (ap (λ (t : Key). t.holder) same)
-                      ∙ ap (λ (j : ℕ). place_at q.holder j) (ap (λ (u : Held). u.number) here ∙ h.2) in
+                      ∙ ap (λ (j : ℕ). place_at q.holder j) (ap (λ (u : HeldLock). u.number) here ∙ h.2) in
                       let self : is_at (place_cmp OldPlace) q ≡ true =
-                      subst (λ (t : Place). is_at (place_cmp OldPlace) t ≡ true) s (is_at-place_self OldPlace) in
+                      subst (λ (t : GrantPlace). is_at (place_cmp OldPlace) t ≡ true) s (is_at-place_self OldPlace) in
                       absurd (cc (i, self))
                   new false j g = (h.0, g ∙ h.1, h.2)
 
@@ -231,7 +231,7 @@ module _ (m n : List Entry) (x y : BTreeMap Place Text) (ix : IsIndexed m x) whe
       indexed-gone = record { placed = placed_gone; filed = filed_gone }
 
 -- all numbers are below n
-pub number_below : (n : ℕ) (m : List Entry) → All (λ (e : Entry). e.1.number < n) m
-    → (q : Key) (u : Held) → held_at m q ≡ Some u → u.number < n
+pub number_below : (n : ℕ) (m : List FiledGrant) → All (λ (e : FiledGrant). e.1.number < n) m
+    → (q : Key) (u : HeldLock) → held_at m q ≡ Some u → u.number < n
 number_below n m below q u e =
-    All-contains (λ (x : Entry). x.1.number < n) m (q, u) below (Contains-from_lookup exact q u m e)
+    All-contains (λ (x : FiledGrant). x.1.number < n) m (q, u) below (Contains-from_lookup exact q u m e)

@@ -11,7 +11,7 @@ use Rattle.std.specs.declared.cmp.Ordering.TheVariants.{Less, Equal, Greater}
 use Rattle.std.proofs.lemmas.Bool.{cases_order, eqb-true, eq-eqb, ne_eqb, lt-ltb, le-ltb}
 use Rattle.registry_model.specs.Process.{is_process}
 use Rattle.lock_table.specs.declared.grant.Key.{Key}
-use Rattle.lock_table.specs.Filed.{Entry, held_at, is_key}
+use Rattle.lock_table.specs.Filed.{FiledGrant, held_at, is_key}
 use Rattle.lock_table.proofs.Changes.{same_process}
 use Rattle.lock_table.proofs.Facts.{both}
 
@@ -59,6 +59,6 @@ key_laws = record {
 }
 
 -- an entry is what is filed under its key
-pub All-held : (es : List Entry) → IsDistinct is_key (keys_of es) → All (λ (e : Entry). held_at es e.0 ≡ Some e.1) es
+pub All-held : (es : List FiledGrant) → IsDistinct is_key (keys_of es) → All (λ (e : FiledGrant). held_at es e.0 ≡ Some e.1) es
 All-held es once i d l =
     lookup_from_place key_laws es i (get_or es i d).0 (get_or es i d).1 once (slice_get-get_or es i d l)

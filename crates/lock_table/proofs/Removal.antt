@@ -13,8 +13,8 @@ use Rattle.std.proofs.lemmas.Map.Keys.{IsDistinct-tail, IsDistinct-IsPermutation
 use Rattle.indexmap.specs.IndexMap.{swap_remove_entry}
 use Rattle.indexmap.proofs.MapLemmas.{Found-position, some_index}
 use Rattle.lock_table.specs.declared.grant.Key.{Key}
-use Rattle.lock_table.specs.declared.grant.Held.{Held}
-use Rattle.lock_table.specs.Filed.{Entry, IsFiled, grant_of, held_at, is_key, listed, numbers_of}
+use Rattle.lock_table.specs.declared.grant.HeldLock.{HeldLock}
+use Rattle.lock_table.specs.Filed.{FiledGrant, IsFiled, grant_of, held_at, is_key, listed, numbers_of}
 use Rattle.lock_table.specs.Index.{is_under}
 use Rattle.lock_table.specs.Sound.{IsSound}
 use Rattle.lock_table.proofs.Ids.{resource_of-id_of}
@@ -23,13 +23,13 @@ use Rattle.lock_table.proofs.Listed.{listed-filter, listed-permuted, once-permut
 use Rattle.lock_table.proofs.Soundness.{sound-filter}
 
 -- a grant is of a key where it is filed under it
-pub is_under-entry : (k : Key) (e : Entry) → is_under k (grant_of e) ≡ is_key k e.0
+pub is_under-entry : (k : Key) (e : FiledGrant) → is_under k (grant_of e) ≡ is_key k e.0
 is_under-entry k e =
     rw (resource_of-id_of (record { resource = e.0.resource; requester = e.1.requester }), key_laws.symm k e.0) refl
 
 -- The last entry comes in the place of the one that goes
 module _ (k : Key) where
-  passes : (es : List Entry) (i : ℕ) (d : Entry) → position_or_len (is_key k) (keys_of es) ≡ i → i < length es
+  passes : (es : List FiledGrant) (i : ℕ) (d : FiledGrant) → position_or_len (is_key k) (keys_of es) ≡ i → i < length es
       → is_key k (get_or es i d).0 ≡ true
   passes [] i d e l = absurd (omega (arith, l))
   passes (e ∷ es) i d at l = go (is_key k e.0) refl at (passes es (position_or_len (is_key k) (keys_of es)) d refl)
@@ -44,10 +44,10 @@ module _ (k : Key) where
           let next : suc (position_or_len (is_key k) (keys_of es)) ≡ i = omega (arith, j) in
           subst (λ (h : ℕ). is_key k (get_or (e ∷ es) h d).0 ≡ true) next (rest (omega (arith, j, l)))
 
-  abbrev pub Gone : List Entry → List Entry → Type 0
-  Gone es fs = (x : Entry) × (is_key k x.0 ≡ true) × IsPermutation es (x ∷ fs)
+  abbrev pub Gone : List FiledGrant → List FiledGrant → Type 0
+  Gone es fs = (x : FiledGrant) × (is_key k x.0 ≡ true) × IsPermutation es (x ∷ fs)
 
-  pub gone-swapped : (es : List Entry) (v : Held) → held_at es k ≡ Some v
+  pub gone-swapped : (es : List FiledGrant) (v : HeldLock) → held_at es k ≡ Some v
       → Gone es (swap_remove_entry (is_key k) es)
   gone-swapped [] v found = absurd (cc found)
   gone-swapped (e ∷ es) v found = go (position (is_key k) (keys_of (e ∷ es))) refl
@@ -58,35 +58,35 @@ module _ (k : Key) where
           absurd (true≢false (sym (ap is_some found) ∙ sym (some_index (is_key k) (e ∷ es)) ∙ ap is_some at))
       go (Some i) at =
           let place = Found-position (is_key k) (e ∷ es) i at in
-          let x : Entry = get_or (e ∷ es) i e in
+          let x : FiledGrant = get_or (e ∷ es) i e in
           let swap : swap_remove (e ∷ es) i x ≡ swap_remove (e ∷ es) i e =
-          ap (λ (y : Entry). take (length (e ∷ es) - 1) (slice_set (e ∷ es) i y))
+          ap (λ (y : FiledGrant). take (length (e ∷ es) - 1) (slice_set (e ∷ es) i y))
           (get_or_default (e ∷ es) (length (e ∷ es) - 1) x e (omega arith)) in (
             x,
             passes (e ∷ es) i e place.or_len place.within,
-            subst (λ (fs : List Entry). IsPermutation (e ∷ es) (x ∷ fs))
+            subst (λ (fs : List FiledGrant). IsPermutation (e ∷ es) (x ∷ fs))
                 (swap
                 ∙ sym (ap (λ (o : Option ℕ). option_map_or (λ j. swap_remove (e ∷ es) j e) o (e ∷ es)) at))
                 (IsPermutation-swap_remove (e ∷ es) i x place.within
                 (get_or_default (e ∷ es) i e x place.within)),
           )
 
-  filter-none : (es : List Entry) → NonePasses (is_key k) es → filter (λ e. not (is_key k e.0)) es ≡ es
+  filter-none : (es : List FiledGrant) → NonePasses (is_key k) es → filter (λ e. not (is_key k e.0)) es ≡ es
   filter-none [] h = refl
-  filter-none (e ∷ es) h = rw (h.0) (ap (λ (fs : List Entry). e ∷ fs) (filter-none es h.1))
+  filter-none (e ∷ es) h = rw (h.0) (ap (λ (fs : List FiledGrant). e ∷ fs) (filter-none es h.1))
 
   -- what is left of the list is what is of other keys
-  pub listed-kept : (n : ℕ) (es : List Entry)
+  pub listed-kept : (n : ℕ) (es : List FiledGrant)
       → listed n (filter (λ e. not (is_key k e.0)) es) ≡ filter (λ g. not (is_under k g)) (listed n es)
   listed-kept n es =
       listed-filter (λ e. not (is_key k e.0)) (λ g. not (is_under k g)) n es
       (λ i d l. ap not (sym (is_under-entry k (get_or es i d))))
 
-  module _ (n : ℕ) (es fs : List Entry) (filed : IsFiled n es) (gone : Gone es fs) where
+  module _ (n : ℕ) (es fs : List FiledGrant) (filed : IsFiled n es) (gone : Gone es fs) where
     once-moved : IsDistinct is_key (keys_of (gone.0 ∷ fs))
     once-moved =
         IsDistinct-IsPermutation is_key key_laws.symm (keys_of es) (keys_of (gone.0 ∷ fs))
-        (IsPermutation-map (λ (e : Entry). e.0) es (gone.0 ∷ fs) gone.2) filed.once
+        (IsPermutation-map (λ (e : FiledGrant). e.0) es (gone.0 ∷ fs) gone.2) filed.once
 
     rest : filter (λ e. not (is_key k e.0)) (gone.0 ∷ fs) ≡ fs
     rest = rw gone.1 (filter-none fs (none_past_head key_laws k gone.0 fs once-moved gone.1))
@@ -101,13 +101,13 @@ module _ (k : Key) where
       once = IsDistinct-tail is_key gone.0.0 (keys_of fs) once-moved;
       numbered_once = IsDistinct-tail (λ a b. a == b) gone.0.1.number (numbers_of fs)
           (once-permuted es (gone.0 ∷ fs) gone.2 filed.numbered_once);
-      below = All-tail (λ (e : Entry). e.1.number < n) gone.0 fs
-          (All-permutation (λ (e : Entry). e.1.number < n) es (gone.0 ∷ fs) gone.2 filed.below);
+      below = All-tail (λ (e : FiledGrant). e.1.number < n) gone.0 fs
+          (All-permutation (λ (e : FiledGrant). e.1.number < n) es (gone.0 ∷ fs) gone.2 filed.below);
       sound = subst IsSound (sym listed-removed) (sound-filter (λ g. not (is_under k g)) (listed n es) filed.sound);
     }
 
   -- nothing is there
-  pub listed-kept_all : (n : ℕ) (es : List Entry) → held_at es k ≡ None
+  pub listed-kept_all : (n : ℕ) (es : List FiledGrant) → held_at es k ≡ None
       → listed n es ≡ filter (λ g. not (is_under k g)) (listed n es)
   listed-kept_all n es absent =
       sym (ap (listed n) (filter-none es (none_passes_from_lookup (is_key k) es absent))) ∙ listed-kept n es

@@ -12,25 +12,25 @@ use Rattle.std.proofs.lemmas.Map.{keys-set_value}
 use Rattle.std.proofs.lemmas.Map.Views.{Contains-from_lookup, lookup-from_Contains}
 use Rattle.registry_model.specs.Process.{Text}
 use Rattle.lock_table.specs.declared.grant.Key.{Key}
-use Rattle.lock_table.specs.declared.grant.Held.{Held}
+use Rattle.lock_table.specs.declared.grant.HeldLock.{HeldLock}
 use Rattle.lock_table.specs.declared.sharers.Sharers.{Sharers}
-use Rattle.lock_table.specs.Filed.{Entry, held_at, is_key}
+use Rattle.lock_table.specs.Filed.{FiledGrant, held_at, is_key}
 use Rattle.lock_table.specs.Sharers.{IsOpen, IsShared, IsUnder, Joins, Leaves, Shared, grants_in, grants_on, less, more, sharers_of}
 use Rattle.lock_table.proofs.Index.{Sets}
 use Rattle.lock_table.proofs.Keys.{exact, key_laws}
 use Rattle.lock_table.proofs.Removal.{Gone}
 
 -- some grant on the resource is in the requester's name
-abbrev pub HasUnder : Text → List Entry → Text → Type 0
+abbrev pub HasUnder : Text → List FiledGrant → Text → Type 0
 HasUnder resource es requester =
-    (e : Entry) × Contains es e × (e.0.resource ≡ resource) × (e.1.requester ≡ requester)
+    (e : FiledGrant) × Contains es e × (e.0.resource ≡ resource) × (e.1.requester ≡ requester)
 
 -- no grant is on the resource
-abbrev pub IsNoneOn : Text → List Entry → Type 0
+abbrev pub IsNoneOn : Text → List FiledGrant → Type 0
 IsNoneOn resource es = All (λ e. (e.0.resource == resource) ≡ false) es
 
 -- no grant on the resource is in another requester's name than this one's
-abbrev pub IsOpenTo : Text → List Entry → Text → Type 0
+abbrev pub IsOpenTo : Text → List FiledGrant → Text → Type 0
 IsOpenTo resource es requester = IsNoneOn resource es ⊎ HasUnder resource es requester
 
 -- What the number of grants on a resource tells
@@ -38,13 +38,13 @@ module _ (r : Text) where
   weight : Key → ℕ
   weight k = cond (k.resource == r) 1 0
 
-  none_on : (es : List Entry) → grants_on r (keys_of es) ≡ 0 → IsNoneOn r es
-  none_on [] zero = All-nil (λ (e : Entry). (e.0.resource == r) ≡ false)
+  none_on : (es : List FiledGrant) → grants_on r (keys_of es) ≡ 0 → IsNoneOn r es
+  none_on [] zero = All-nil (λ (e : FiledGrant). (e.0.resource == r) ≡ false)
   none_on (e ∷ es) zero =
       go (e.0.resource == r) refl (sum_by-cons (λ (k : Key). cond (k.resource == r) 1 0) e.0 (keys_of es))
       (none_on es)
     where
-      P : Entry → Type 0
+      P : FiledGrant → Type 0
       P x = (x.0.resource == r) ≡ false
 
       go : (b : Bool) → (e.0.resource == r) ≡ b
@@ -53,8 +53,8 @@ module _ (r : Text) where
       go true i sum rest = absurd (omega (arith, sum, zero))
       go false i sum rest = All-cons P e es i (rest (omega (arith, sum, zero)))
 
-  some_on : (es : List Entry) → 0 < grants_on r (keys_of es)
-      → (e : Entry) × Contains es e × (e.0.resource ≡ r)
+  some_on : (es : List FiledGrant) → 0 < grants_on r (keys_of es)
+      → (e : FiledGrant) × Contains es e × (e.0.resource ≡ r)
   some_on [] more = absurd (omega (arith, more))
   some_on (e ∷ es) more =
       go (e.0.resource == r) refl (sum_by-cons (λ (k : Key). cond (k.resource == r) 1 0) e.0 (keys_of es))
@@ -62,8 +62,8 @@ module _ (r : Text) where
     where
       go : (b : Bool) → (e.0.resource == r) ≡ b
           → grants_on r (keys_of (e ∷ es)) ≡ cond b 1 0 + grants_on r (keys_of es)
-          → (0 < grants_on r (keys_of es) → (x : Entry) × Contains es x × (x.0.resource ≡ r))
-          → (x : Entry) × Contains (e ∷ es) x × (x.0.resource ≡ r)
+          → (0 < grants_on r (keys_of es) → (x : FiledGrant) × Contains es x × (x.0.resource ≡ r))
+          → (x : FiledGrant) × Contains (e ∷ es) x × (x.0.resource ≡ r)
       go true i sum rest = (e, (0, omega arith, refl), eqb-true e.0.resource r i)
       go false i sum rest =
           let h = rest (omega (arith, sum, more)) in (h.0, Contains-append_right (e ∷ []) es h.0 h.1, h.2)
@@ -79,7 +79,7 @@ pub joined-first : (old between new : Shared) (r q z y : Text) → sharers_of r 
     → Joins r q old new
 joined-first old between new r q z y none same i j h x = h x ∙ rw (same, i, j, none) refl
 
-module _ (es : List Entry) (shared : Shared) (good : IsShared es shared) where
+module _ (es : List FiledGrant) (shared : Shared) (good : IsShared es shared) where
   -- what a look-up of a resource tells of what is filed
   pub under-filed : (r q : Text) → IsDistinct is_key (keys_of es) → IsUnder r q shared → HasUnder r es q
   under-filed r q once h =
@@ -106,8 +106,8 @@ module _ (es : List Entry) (shared : Shared) (good : IsShared es shared) where
       (count_by-le-length (λ (k : Key). k.resource == r) (keys_of es))
 
   -- another count
-  pub shared-recount : (k : Key) (v w : Held) → held_at es k ≡ Some v → w.requester ≡ v.requester
-      → (fs : List Entry) → fs ≡ set_value (is_key k) es w → Sets k (Some w) es fs → IsShared fs shared
+  pub shared-recount : (k : Key) (v w : HeldLock) → held_at es k ≡ Some v → w.requester ≡ v.requester
+      → (fs : List FiledGrant) → fs ≡ set_value (is_key k) es w → Sets k (Some w) es fs → IsShared fs shared
   shared-recount k v w found same fs set sets = record {
     counted = λ r. good.counted r
         ∙ ap (grants_on r) (sym (ap keys_of set ∙ keys-set_value (is_key k) es w));
@@ -115,17 +115,17 @@ module _ (es : List Entry) (shared : Shared) (good : IsShared es shared) where
     named = λ q u s at of. go q u s (is_key k q) refl (sym (sets q) ∙ at) of;
   }
     where
-      go : (q : Key) (u : Held) (s : Sharers) (b : Bool) → is_key k q ≡ b → cond b (Some w) (held_at es q) ≡ Some u
+      go : (q : Key) (u : HeldLock) (s : Sharers) (b : Bool) → is_key k q ≡ b → cond b (Some w) (held_at es q) ≡ Some u
           → sharers_of q.resource shared ≡ Some s → u.requester ≡ s.requester
       go q u s true i at of =
           let here : w ≡ u = same_some w u at in
-          sym (ap (λ (h : Held). h.requester) here) ∙ same
+          sym (ap (λ (h : HeldLock). h.requester) here) ∙ same
           ∙ good.named k v s found (ap (λ (z : Key). sharers_of z.resource shared) (exact k q i) ∙ of)
       go q u s false i at of = good.named q u s at of
 
   -- a first grant
-  module _ (k : Key) (v : Held) (after : Shared)
-      (free : All (λ (x : Entry). ((x.0.resource == k.resource) && not (x.1.requester == v.requester)) ≡ false) es)
+  module _ (k : Key) (v : HeldLock) (after : Shared)
+      (free : All (λ (x : FiledGrant). ((x.0.resource == k.resource) && not (x.1.requester == v.requester)) ≡ false) es)
       (once : IsDistinct is_key (keys_of es)) (joins : Joins k.resource v.requester shared after)
       (sets : Sets k (Some v) es (es ++ (k, v) ∷ [])) where
     abbrev Old : Option Sharers
@@ -138,7 +138,7 @@ module _ (es : List Entry) (shared : Shared) (good : IsShared es shared) where
     counted_first : (r : Text) → grants_in (sharers_of r after) ≡ grants_on r (keys_of (es ++ (k, v) ∷ []))
     counted_first r =
         go (k.resource == r) refl (joins r)
-        ∙ sym (ap (grants_on r) (map-append (λ (e : Entry). e.0) es ((k, v) ∷ []))
+        ∙ sym (ap (grants_on r) (map-append (λ (e : FiledGrant). e.0) es ((k, v) ∷ []))
         ∙ sum_by_push (λ (q : Key). cond (q.resource == r) 1 0) (keys_of es) k)
       where
         go : (b : Bool) → (k.resource == r) ≡ b
@@ -165,7 +165,7 @@ module _ (es : List Entry) (shared : Shared) (good : IsShared es shared) where
     kept_name None e s f = ap (λ (z : Sharers). z.requester) (same_some (more v.requester None) s f)
     kept_name (Some t) e s f =
         let h = under-filed k.resource t.requester once (t, e, refl) in
-        let clear = All-contains (λ (x : Entry). ((x.0.resource == k.resource) && not (x.1.requester == v.requester)) ≡ false)
+        let clear = All-contains (λ (x : FiledGrant). ((x.0.resource == k.resource) && not (x.1.requester == v.requester)) ≡ false)
         es h.0 free h.1 in
         sym (own (h.0.0.resource == k.resource) (h.0.1.requester == v.requester)
         (eq-eqb h.0.0.resource k.resource h.2) clear (eqb-true h.0.1.requester v.requester))
@@ -176,7 +176,7 @@ module _ (es : List Entry) (shared : Shared) (good : IsShared es shared) where
         own true false i h rest = absurd (cc h)
         own false b i h rest = absurd (cc i)
 
-    named_first : (q : Key) (u : Held) (s : Sharers) → held_at (es ++ (k, v) ∷ []) q ≡ Some u
+    named_first : (q : Key) (u : HeldLock) (s : Sharers) → held_at (es ++ (k, v) ∷ []) q ≡ Some u
         → sharers_of q.resource after ≡ Some s → u.requester ≡ s.requester
     named_first q u s at of = go (is_key k q) refl (sym (sets q) ∙ at)
       where
@@ -190,7 +190,7 @@ module _ (es : List Entry) (shared : Shared) (good : IsShared es shared) where
 
             by : (o : Option Sharers) → Old ≡ o → Some (more v.requester o) ≡ Some s → u.requester ≡ s.requester
             by None e g =
-                let other = All-contains (λ (x : Entry). (x.0.resource == k.resource) ≡ false) es (q, u)
+                let other = All-contains (λ (x : FiledGrant). (x.0.resource == k.resource) ≡ false) es (q, u)
                 (none-filed k.resource e) (Contains-from_lookup exact q u es old) in
                 absurd (cc (other, eq-eqb q.resource k.resource on))
             by (Some t) e g =
@@ -202,7 +202,7 @@ module _ (es : List Entry) (shared : Shared) (good : IsShared es shared) where
         go true i f =
             let on : k.resource ≡ q.resource = ap (λ (z : Key). z.resource) (exact k q i) in
             let here : v ≡ u = same_some v u f in
-            sym (ap (λ (h : Held). h.requester) here)
+            sym (ap (λ (h : HeldLock). h.requester) here)
             ∙ kept_name Old refl s
             (sym (joins k.resource ∙ ap (λ (b : Bool). if b then Some (more v.requester Old) else Old)
             (eq-eqb k.resource k.resource refl))
@@ -213,7 +213,7 @@ module _ (es : List Entry) (shared : Shared) (good : IsShared es shared) where
     shared-first = record { counted = counted_first; some = some_first; named = named_first }
 
   -- a grant is gone
-  module _ (k : Key) (fs : List Entry) (after : Shared) (gone : Gone k es fs)
+  module _ (k : Key) (fs : List FiledGrant) (after : Shared) (gone : Gone k es fs)
       (leaves : Leaves k.resource shared after) (sets : Sets k None es fs) where
     abbrev Was : Option Sharers
     Was = sharers_of k.resource shared
@@ -222,7 +222,7 @@ module _ (es : List Entry) (shared : Shared) (good : IsShared es shared) where
     counted_gone r = go (k.resource == r) refl (leaves r) (subst (λ (x : Key).
         grants_on r (keys_of fs) + cond (x.resource == r) 1 0 ≡ grants_on r (keys_of es)) (sym (exact k gone.0.0 gone.1))
         (sum_by_popped (λ (q : Key). cond (q.resource == r) 1 0) gone.0.0 (keys_of es) (keys_of fs)
-        (IsPermutation-map (λ (e : Entry). e.0) es (gone.0 ∷ fs) gone.2)))
+        (IsPermutation-map (λ (e : FiledGrant). e.0) es (gone.0 ∷ fs) gone.2)))
       where
         by : (o : Option Sharers) (n : ℕ) → grants_in o ≡ n + 1 → grants_in (less o) ≡ n
         by None n e = absurd (omega (arith, e))
@@ -265,7 +265,7 @@ module _ (es : List Entry) (shared : Shared) (good : IsShared es shared) where
         go true f = (left Was s f).3
         go false f = good.some r s f
 
-    named_gone : (q : Key) (u : Held) (s : Sharers) → held_at fs q ≡ Some u → sharers_of q.resource after ≡ Some s
+    named_gone : (q : Key) (u : HeldLock) (s : Sharers) → held_at fs q ≡ Some u → sharers_of q.resource after ≡ Some s
         → u.requester ≡ s.requester
     named_gone q u s at of = go (is_key k q) (sym (sets q) ∙ at)
       where

@@ -3,9 +3,9 @@ use Rattle.std.specs.Prelude.{ℕ, ◌≡◌, ◌<◌, ◌==◌, ◌+◌, ◌-�
 use Rattle.std.specs.List.{count_by}
 use Rattle.std.specs.Map.{keys_of, lookup}
 use Rattle.registry_model.specs.Process.{Text}
-use Rattle.lock_table.specs.Filed.{Entry, held_at}
+use Rattle.lock_table.specs.Filed.{FiledGrant, held_at}
 use Rattle.lock_table.specs.declared.grant.Key.{Key}
-use Rattle.lock_table.specs.declared.grant.Held.{Held}
+use Rattle.lock_table.specs.declared.grant.HeldLock.{HeldLock}
 use Rattle.lock_table.specs.declared.sharers.Sharers.{Sharers}
 
 -- the sharers of each resource that has a grant, in any order
@@ -52,8 +52,8 @@ abbrev pub grants_on : Text → List Key → ℕ
 grants_on r keys = count_by (λ k. k.resource == r) keys
 
 -- each resource has as many grants as are filed on it, all in its requester's name, and is forgotten where it has none
-pub record IsShared (es : List Entry) (shared : Shared) : Type 0 where
+pub record IsShared (es : List FiledGrant) (shared : Shared) : Type 0 where
   pub counted : (r : Text) → grants_in (sharers_of r shared) ≡ grants_on r (keys_of es)
   pub some : (r : Text) (s : Sharers) → sharers_of r shared ≡ Some s → 0 < s.grants
-  pub named : (k : Key) (v : Held) (s : Sharers) → held_at es k ≡ Some v
+  pub named : (k : Key) (v : HeldLock) (s : Sharers) → held_at es k ≡ Some v
       → sharers_of k.resource shared ≡ Some s → v.requester ≡ s.requester

@@ -12,7 +12,7 @@ pub(crate) struct Key {
 
 /// How often a holder has a lock, and in whose name.
 #[derive(Clone, Debug, Drop)]
-pub(crate) struct Held {
+pub(crate) struct HeldLock {
     pub(crate) requester: Requester,
     pub(crate) count: u32,
     /// Rises with each first grant.
@@ -22,7 +22,7 @@ pub(crate) struct Held {
 /// Where a grant stands among its holder's. Holders of one node stand together, and the grants of one holder, as their
 /// numbers rise.
 #[derive(Clone, Debug, PartialEq, Eq, PartialOrd, Ord, Drop)]
-pub(crate) struct Place {
+pub(crate) struct GrantPlace {
     pub(crate) holder: Pid,
     pub(crate) number: u64,
 }
@@ -39,12 +39,12 @@ impl Key {
     }
 }
 
-impl Place {
+impl GrantPlace {
     /// Where the holder's grant of this number stands, if there is one.
-    pub(crate) fn of(holder: &Pid, number: u64) -> Place
+    pub(crate) fn of(holder: &Pid, number: u64) -> GrantPlace
         ensures { result ≡ record { holder = holder.now; number = number } }
     {
-        Place {
+        GrantPlace {
             holder: holder.copy(),
             number,
         }

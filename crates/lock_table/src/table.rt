@@ -8,7 +8,7 @@ ghost use Rattle.lock_table.specs.Index.{IsFirstFrom, IsNoneFrom, IsListedUnder,
 ghost use Rattle.lock_table.specs.Sound.{IsSound};
 ghost use Rattle.lock_table.specs.Verdicts.{verdict_of, asked, IsFirstGrant};
 
-use crate::grant::{Held, Key, Place};
+use crate::grant::{GrantPlace, HeldLock, Key};
 use crate::sharers::{Shared, join, leave, other_requester};
 use crate::verdict::Verdict;
 use indexmap::IndexMap;
@@ -24,10 +24,10 @@ use term::{LockId, Node, Pid, Requester, Resource};
 /// holder that is dropped, or of a node.
 #[derive(Debug, Drop)]
 pub struct LockTable {
-    grants: IndexMap<Key, Held>,
+    grants: IndexMap<Key, HeldLock>,
     shared: Shared,
     /// The resource of each grant, where the grant stands among its holder's.
-    by_holder: BTreeMap<Place, Resource>,
+    by_holder: BTreeMap<GrantPlace, Resource>,
     /// The number of the next first grant: the grants are listed as their numbers rise.
     next: u64,
 }
@@ -46,7 +46,7 @@ impl Model for LockTable {
 }
 
 /// The key of the first grant that stands at a place or behind it.
-fn first_from(by_holder: &BTreeMap<Place, Resource>, from: &Place) -> Option<Key>
+fn first_from(by_holder: &BTreeMap<GrantPlace, Resource>, from: &GrantPlace) -> Option<Key>
     ensures some { IfSome result (IsFirstFrom by_holder.now from.now) }
     ensures none { IfNone result (IsNoneFrom by_holder.now from.now) }
 {
@@ -140,10 +140,10 @@ impl LockTable {
         };
         self.grants.reserve(1)?;
         self.shared.reserve(1)?;
-        let place = Place::of(&key.holder, number);
+        let place = GrantPlace::of(&key.holder, number);
         self.by_holder.insert(place, key.resource.copy())?;
         join(&mut self.shared, &key.resource, &requester);
-        let held = Held {
+        let held = HeldLock {
             requester,
             count: 1,
             number,
@@ -175,7 +175,7 @@ impl LockTable {
         ensures { self.new ≡ filter (λ g. not (is_under key.now g)) self.old }
     {
         if let Some(held) = self.grants.swap_remove(key) {
-            self.by_holder.remove(&Place::of(&key.holder, held.number));
+            self.by_holder.remove(&GrantPlace::of(&key.holder, held.number));
             leave(&mut self.shared, &key.resource);
         }
     }
@@ -185,7 +185,7 @@ impl LockTable {
         ensures some { IfSome result (λ key. IsListedUnder key self.now × (key.holder ≡ holder.now)) }
         ensures none { IfNone result (All (λ g. is_process g.holder holder.now ≡ false) self.now) }
     {
-        let key = first_from(&self.by_holder, &Place::of(holder, 0))?;
+        let key = first_from(&self.by_holder, &GrantPlace::of(holder, 0))?;
         if key.holder == *holder {
             Some(key)
         } else {
@@ -202,7 +202,7 @@ impl LockTable {
             node: node.copy(),
             serial: 0,
         };
-        let key = first_from(&self.by_holder, &Place::of(&first, 0))?;
+        let key = first_from(&self.by_holder, &GrantPlace::of(&first, 0))?;
         if key.holder.node == *node {
             Some(key)
         } else {

@@ -11,12 +11,12 @@ use Rattle.locker.specs.declared.mark.Mark.TheVariants.{Later, Owes, Granted, Re
 
 -- the nodes that it asks, now or later, and behind each other their marks; what stands behind the last node's is no
 -- mark
-pub record Held : Type 0 where
+pub record HeldLockRound : Type 0 where
   pub nodes : List ℕ
   pub marks : List Mark
 
 -- some nodes are asked, and there is room for the marks of the most nodes
-pub record IsRound (h : Held) : Type 0 where
+pub record IsRound (h : HeldLockRound) : Type 0 where
   pub set : IsNodeSet h.nodes
   pub some : 0 < length h.nodes
   pub room : length h.marks ≡ MOST_NODES
@@ -45,11 +45,11 @@ mark_at None marks = protocol.Out
 mark_at (Some i) marks = as_mark (slice_index_or marks i Gone)
 
 -- what is held, as the protocol's round
-abbrev pub seen : Held → protocol.Round
+abbrev pub seen : HeldLockRound → protocol.Round
 seen h = record { boss = boss_of h.nodes; mark = λ c. mark_at (place c h.nodes) h.marks }
 
 -- the boss refused, or went down before it answered, or granted and nobody owes an answer
-abbrev pub is_settled : Held → Bool
+abbrev pub is_settled : HeldLockRound → Bool
 is_settled h =
     is_refused ((seen h).mark (boss_of h.nodes)) || is_gone ((seen h).mark (boss_of h.nodes))
     || has_granted ((seen h).mark (boss_of h.nodes)) && not (list_any (owes (seen h)) h.nodes)

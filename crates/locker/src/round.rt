@@ -18,9 +18,9 @@ pub struct Round {
 }
 
 impl Model for Round {
-    ghost use Rattle.locker.specs.Held.{Held, IsRound};
+    ghost use Rattle.locker.specs.Held.{HeldLockRound, IsRound};
 
-    ghost Value = { Held };
+    ghost Value = { HeldLockRound };
 
     ghost view = { λ r. record { nodes = r.nodes; marks = r.marks } };
 
@@ -278,7 +278,7 @@ impl Round {
             → EndsAs result (protocol.ending n (set_of members.now) (seen self.now)) }
     {
         if self.is_won(members) {
-            Ending::Held
+            Ending::HeldLockRound
         } else {
             Ending::GiveBack(self.granted())
         }

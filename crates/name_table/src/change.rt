@@ -42,19 +42,19 @@ impl Pair {
 
 /// What stands in a table under a name.
 #[derive(Clone, Debug, PartialEq, Eq, Drop)]
-pub struct Entry {
+pub struct Ownership {
     /// The process that owns the name.
     pub owner: Pid,
     /// The name's rule.
     pub rule: Rule,
 }
 
-impl Entry {
+impl Ownership {
     /// The same entry. It takes no memory.
     pub fn copy(&self) -> Self
         ensures { result ≡ self.now }
     {
-        Entry {
+        Ownership {
             owner: self.owner.copy(),
             rule: self.rule,
         }

@@ -49,9 +49,9 @@ impl Play<Moment, u64> for Adds {
 }
 
 /// A loop, and whether it is at its end.
-pub(crate) type Standing<'a, N, L> = (&'a NodeLoop<N, L>, bool);
+pub(crate) type LoopState<'a, N, L> = (&'a NodeLoop<N, L>, bool);
 
-impl<'a, N: Names<Memory = Global>, L: Record> Plain<Standing<'a, N, L>, Moment, u64> for Adds {
+impl<'a, N: Names<Memory = Global>, L: Record> Plain<LoopState<'a, N, L>, Moment, u64> for Adds {
     ghost use Rattle.std.specs.Prelude.{None};
     ghost use Rattle.node_books.specs.Moments.{moment};
 

@@ -7,7 +7,7 @@ ghost use Rattle.node_books.specs.Faults.{IsWhy};
 use crate::fault::ScribeFault;
 use crate::moment::Moment;
 use crate::node_past::Past;
-use crate::rule::{Adds, Law, Nothing, Standing, Token};
+use crate::rule::{Adds, Law, LoopState, Nothing, Token};
 use logbook::{Offer, Seen, Start, Word};
 use name_table::Names;
 use node_loop::{NodeLoop, Record};
@@ -60,7 +60,7 @@ fn write<N: Names<Memory = Global>, L: Record>(
     let mut all = seen.again();
     let mut offer: Offer<Moment, u64, Law, Nothing> = all.plain::<
         Nothing,
-        Standing<'_, N, L>,
+        LoopState<'_, N, L>,
         Adds,
     >(&(node, ended));
     let mut pen = all.no_pen();

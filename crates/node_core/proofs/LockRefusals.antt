@@ -4,14 +4,14 @@ use Rattle.std.specs.Prelude.{not, if◌then◌else◌, is_some}
 use Rattle.std.specs.Bool.{then_some}
 use Rattle.std.specs.Option.{option_or, option_map, option_copied}
 use Rattle.registry_model.specs.Process.{Text, Process}
-use Rattle.protocol_model.specs.Event.{Refusal, Cause, first_cause, lock_causes, global_resource}
+use Rattle.protocol_model.specs.Event.{Refusal, RefusalCause, first_cause, lock_causes, global_resource}
 use Rattle.protocol_model.specs.Event as refused
 use Rattle.protocol_model.specs.Node.{call_of}
 use Rattle.protocol_model.specs.Watch.{is_live}
 use Rattle.term.specs.LockIds.{global_text}
 use Rattle.node_events.specs.declared.events.StepFault.{StepFault}
 use Rattle.node_events.specs.declared.events.StepFault.TheVariants.{NotLive, Busy, Reserved, UnknownNode, AlreadyJoined, NoSuchProcess, AlreadyExited, SerialsSpent, NothingToRetry, HoldsLock, CallsSpent, Memory}
-use Rattle.node_core.specs.Held.{Held, IsWhole}
+use Rattle.node_core.specs.Held.{HeldCore, IsWhole}
 use Rattle.node_core.specs.Seen.{node_of}
 use Rattle.node_events.specs.Seen.{fault_of}
 use Rattle.node_core.specs.Steps.{cause_of}
@@ -28,11 +28,11 @@ first_of_lock p live busy reserved =
     else (if busy then Some (refused.Busy p) else (if reserved then Some refused.Reserved else None))
 
 -- a live process with no call is refused where the resource is `global`
-pub reserves : (h k : Held) (p : Process) (r g : Text) → IsWhole k → k ≡ h
+pub reserves : (h k : HeldCore) (p : Process) (r g : Text) → IsWhole k → k ≡ h
     → is_live k.watch.node k.watch.watch p ≡ true → is_some (call_of p (node_of k).calls) ≡ false → g ≡ global_text
     → cause_of (then_some (r == g) Reserved) ≡ first_cause (lock_causes h.name (node_of h) p r)
 reserves h k p r g whole same live free global =
-    subst (λ (x : Held). cause_of (then_some (r == g) Reserved) ≡ first_cause (lock_causes x.name (node_of x) p r)) same
+    subst (λ (x : HeldCore). cause_of (then_some (r == g) Reserved) ≡ first_cause (lock_causes x.name (node_of x) p r)) same
     (subst (λ (a : ℕ). cause_of (then_some (r == g) Reserved) ≡ first_cause (lock_causes a (node_of k) p r)) whole.watch
     (ap (λ (t : Text). cause_of (then_some (r == t) Reserved)) (global ∙ is_global) ∙ go (r == global_resource)
     ∙ sym (ap (λ (b : Bool). first_of_lock p b (is_some (call_of p (node_of k).calls)) (r == global_resource)) live
@@ -58,7 +58,7 @@ refusal_is CallsSpent not = (refused.CallsSpent, refl)
 refusal_is Memory not = absurd (not refl)
 
 -- the first of these causes and of others is the first of these, if there is one
-first_with : (cs ds : List Cause) (r : Refusal) → Some r ≡ first_cause cs → Some r ≡ first_cause (cs ++ ds)
+first_with : (cs ds : List RefusalCause) (r : Refusal) → Some r ≡ first_cause cs → Some r ≡ first_cause (cs ++ ds)
 first_with [] ds r is = cc
 first_with (c ∷ cs) ds r is = go c.stands (first_with cs ds r) is
   where
@@ -69,7 +69,7 @@ first_with (c ∷ cs) ds r is = go c.stands (first_with cs ds r) is
     go false rest e = rest e
 
 -- where there is none of these, it is the first of the others
-first_without : (cs ds : List Cause) → None ≡ first_cause cs → first_cause ds ≡ first_cause (cs ++ ds)
+first_without : (cs ds : List RefusalCause) → None ≡ first_cause cs → first_cause ds ≡ first_cause (cs ++ ds)
 first_without [] ds is = refl
 first_without (c ∷ cs) ds is = go c.stands (first_without cs ds) is
   where
@@ -80,13 +80,13 @@ first_without (c ∷ cs) ds is = go c.stands (first_without cs ds) is
     go false rest e = rest e
 
 -- a fault for one of these causes is the first of these and of others
-pub faults_first : (cs ds : List Cause) (f : StepFault) → (Some f ≡ Some Memory → ⊥) → fault_of f ≡ first_cause cs
+pub faults_first : (cs ds : List RefusalCause) (f : StepFault) → (Some f ≡ Some Memory → ⊥) → fault_of f ≡ first_cause cs
     → fault_of f ≡ first_cause (cs ++ ds)
 faults_first cs ds f not is =
     let r = refusal_is f not in r.1 ∙ first_with cs ds r.0 (sym r.1 ∙ is)
 
 -- so it is where a fault is looked for among the others next
-pub faults_next : (cs ds : List Cause) (o p : Option StepFault) → (o ≡ Some Memory → ⊥) → cause_of o ≡ first_cause cs
+pub faults_next : (cs ds : List RefusalCause) (o p : Option StepFault) → (o ≡ Some Memory → ⊥) → cause_of o ≡ first_cause cs
     → cause_of p ≡ first_cause ds → cause_of (option_or o p) ≡ first_cause (cs ++ ds)
 faults_next cs ds None p not first next = next ∙ first_without cs ds first
 faults_next cs ds (Some f) p not first next = faults_first cs ds f not first

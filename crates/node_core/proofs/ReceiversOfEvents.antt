@@ -26,14 +26,14 @@ use Rattle.transaction.specs.Ops.{op_of}
 use Rattle.transaction.specs.Calls.{target_of, retries_of}
 use Rattle.node_events.specs.declared.events.Call.{Call}
 use Rattle.node_events.specs.declared.events.Call.TheVariants.{Spawn, Whereis, RegisteredNames, Notices, Register, ReRegister, Unregister, SetLock as SetsLock, DelLock as DeletesLock, Join as JoinBy}
-use Rattle.node_events.specs.declared.events.Event.{Event}
-use Rattle.node_events.specs.declared.events.Event.TheVariants.{Call as Calls, FromPeer, Retry, Exit, Leave}
+use Rattle.node_events.specs.declared.events.NodeEvent.{NodeEvent}
+use Rattle.node_events.specs.declared.events.NodeEvent.TheVariants.{Call as Calls, FromPeer, Retry, Exit, Leave}
 use Rattle.node_events.specs.declared.events.Letter.{Letter}
 use Rattle.node_events.specs.declared.events.Letter.TheVariants.{SetLock, LockAnswer, GiveBack, GivenBack, ReleaseOf, Apply, Applied, JoinAsk, JoinRefused, Admit, Welcome, Down}
 use Rattle.node_core.specs.declared.node.Phase.{Phase}
 use Rattle.node_core.specs.declared.node.Phase.TheVariants.{Asking, Waiting, Writing, Joining}
 use Rattle.node_events.specs.Made.{Made}
-use Rattle.node_core.specs.Held.{Held, IsWhole, IsPhaseWithin, IsOpWithin, IsCurrentWithin, IsCallWithin, bound_of}
+use Rattle.node_core.specs.Held.{HeldCore, IsWhole, IsPhaseWithin, IsOpWithin, IsCurrentWithin, IsCallWithin, bound_of}
 use Rattle.node_events.specs.Letters.{send_of, letter_of}
 use Rattle.node_core.specs.Seen.{node_of, turn_by, current_of}
 use Rattle.node_events.specs.Seen.{call_of}
@@ -97,7 +97,7 @@ module _ {n a : ℕ} {world : Nodes} where
       go (Current.Waiting op) of = asks op u of W
       go _ of = W
 
-module _ (h : Held) (whole : IsWhole h) (rising : is_rising h.table ≡ true) where
+module _ (h : HeldCore) (whole : IsWhole h) (rising : is_rising h.table ≡ true) where
   abbrev n : ℕ
   n = bound_of h.world
 
@@ -241,7 +241,7 @@ module _ (h : Held) (whole : IsWhole h) (rising : is_rising h.table ≡ true) wh
   asked_of (JoinBy m) of = of
 
   -- an event's turn sends to nodes that have started
-  turn_within : (number : ℕ → ℕ) (e : Event) (u : Turn) → IsHeardWithin h.world h.name e → IsTurn number e h u
+  turn_within : (number : ℕ → ℕ) (e : NodeEvent) (u : Turn) → IsHeardWithin h.world h.name e → IsTurn number e h u
       → GoTo h.name world u.sends
   turn_within number (Calls c) u heard is = subst (λ (v : Turn). GoTo h.name world v.sends) (sym (is heard))
       (starts (call n h.name (h.last_call + 1) (call_of c) (begun (node_of h)))
@@ -278,7 +278,7 @@ module _ (h : Held) (whole : IsWhole h) (rising : is_rising h.table ≡ true) wh
   said t JoinRefused fit = tt
 
   -- so do the letters that it is made of
-  pub sends_within : (number : ℕ → ℕ) (e : Event) (k : Held) (made : Made) → IsHeardWithin h.world h.name e
+  pub sends_within : (number : ℕ → ℕ) (e : NodeEvent) (k : HeldCore) (made : Made) → IsHeardWithin h.world h.name e
       → IsTurn number e h (turn_by number k made) → GoWithin h.world h.name made.letters
   sends_within number e k made heard is = λ i d l.
       let sent : IsSent h.name world (send_of (get_or made.letters i d)) =

@@ -1,10 +1,10 @@
 -- What a node takes a step for, as the event that it is.
-use Rattle.node_events.specs.declared.events.Event.{Event}
-use Rattle.node_events.specs.declared.events.Event.TheVariants as of_event
+use Rattle.node_events.specs.declared.events.NodeEvent.{NodeEvent}
+use Rattle.node_events.specs.declared.events.NodeEvent.TheVariants as of_event
 use Rattle.node_core.specs.declared.cause.Cause.{Cause}
 use Rattle.node_core.specs.declared.cause.Cause.TheVariants.{Call, FromPeer, Retry, Exit, Leave}
 
-abbrev pub event_by : Cause → Event
+abbrev pub event_by : Cause → NodeEvent
 event_by (Call c) = of_event.Call c.now
 event_by (FromPeer f l) = of_event.FromPeer f.now l.now
 event_by Retry = of_event.Retry

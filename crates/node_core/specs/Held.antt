@@ -8,8 +8,8 @@ use Rattle.registry_model.specs.Process.{Nodes}
 use Rattle.term.specs.Nodes.{name_of}
 use Rattle.term.specs.NodeSets.{set_of, with_older}
 use Rattle.exit_watch.specs.Spans.{ends}
-use Rattle.exit_watch.specs.Held.{Held as Watch, watch_from, AreSuspected}
-use Rattle.lock_calls.specs.Held.{Held as LockCalls, none_at, seen}
+use Rattle.exit_watch.specs.Held.{HeldWatch, watch_from, AreSuspected}
+use Rattle.lock_calls.specs.Held.{HeldCalls, none_at, seen}
 use Rattle.lock_calls.specs.declared.call.LockCall.{LockCall}
 use Rattle.protocol_model.specs.Node.{LockPhase}
 use Rattle.protocol_model.specs.Round.{asked}
@@ -19,7 +19,7 @@ use Rattle.transaction.specs.declared.op.Op.TheVariants.{Join, Admission}
 use Rattle.node_core.specs.declared.node.Phase.{Phase}
 use Rattle.node_core.specs.declared.node.Phase.TheVariants.{Asking, Waiting, Writing, Joining}
 
-pub record Held : Type 0 where
+pub record HeldCore : Type 0 where
   pub name : ℕ
   pub world : List ℕ  -- the nodes at present, one of each name, rising
   pub members : List ℕ
@@ -28,14 +28,14 @@ pub record Held : Type 0 where
   pub table : Table
   pub notices : List (ℕ × List Notice)  -- what its processes were sent, by serial
   pub locks : Locks
-  pub watch : Watch
+  pub watch : HeldWatch
   pub registrar : Work
   pub phase : Phase  -- where the current operation stands
-  pub calls : LockCalls  -- of its processes, that aren't answered
+  pub calls : HeldCalls  -- of its processes, that aren't answered
   pub last_call : ℕ
 
 -- in how many spans a node keeps the serials of its dead
-abbrev pub spans_of : Held → ℕ
+abbrev pub spans_of : HeldCore → ℕ
 spans_of h = distinct_count nat_eq (ends h.watch.watch.dead)
 
 -- above all nodes that have one of these nodes' names
@@ -80,7 +80,7 @@ IsCallWithin world LockPhase.Waiting = Unit {0}
 IsCallWithin world (LockPhase.Deleting owing) = HaveStarted world owing
 
 -- the call is of a process of this node
-abbrev pub IsOwnCall : Held → LockCall → Type 0
+abbrev pub IsOwnCall : HeldCore → LockCall → Type 0
 IsOwnCall h c = (c.holder.node ≡ h.name) × (0 < c.holder.serial)
 
 -- Of the nodes of a world no two have one name; these nodes of it or older ones have left, and with each all older ones of its name,
@@ -97,7 +97,7 @@ pub record IsNext (older next : ℕ) : Type 0 where
 
 -- The node is one of its members, which are of the world and haven't left, as far as it was told; all other nodes that it knows of
 -- have started. Its watch and its lock calls are its own, and the watch suspects each dead process of the node that owns a name
-pub record IsWhole (h : Held) : Type 0 where
+pub record IsWhole (h : HeldCore) : Type 0 where
   pub self : set_of h.members h.name ≡ true
   pub members : AreOf h.world h.members
   pub told : HaveLeft h.world h.told
@@ -112,7 +112,7 @@ pub record IsWhole (h : Held) : Type 0 where
   pub called : All (λ c. IsCallWithin h.world c.phase) (seen h.calls)
 
 -- a node at its beginning, which was told that these have left
-abbrev pub fresh_behind : ℕ → List ℕ → List ℕ → List ℕ → Bool → Held
+abbrev pub fresh_behind : ℕ → List ℕ → List ℕ → List ℕ → Bool → HeldCore
 fresh_behind a world members left joined = record {
   name = a;
   world = world;
@@ -130,5 +130,5 @@ fresh_behind a world members left joined = record {
 }
 
 -- a node at its beginning, which was told of nobody
-abbrev pub fresh : ℕ → List ℕ → List ℕ → Bool → Held
+abbrev pub fresh : ℕ → List ℕ → List ℕ → Bool → HeldCore
 fresh a world members joined = fresh_behind a world members [] joined

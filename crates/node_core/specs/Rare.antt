@@ -4,14 +4,14 @@ use Rattle.term.specs.declared.limits.TheConstants.{MOST_NODES}
 use Rattle.transaction.specs.declared.op.Op.{Op}
 use Rattle.transaction.specs.declared.op.Op.TheVariants.{Admission}
 use Rattle.transaction.specs.Work.{begins_with_join}
-use Rattle.node_events.specs.declared.events.Event.{Event}
-use Rattle.node_events.specs.declared.events.Event.TheVariants.{Call, FromPeer}
+use Rattle.node_events.specs.declared.events.NodeEvent.{NodeEvent}
+use Rattle.node_events.specs.declared.events.NodeEvent.TheVariants.{Call, FromPeer}
 use Rattle.node_events.specs.declared.events.Call.{Call as ClientCall}
 use Rattle.node_events.specs.declared.events.Call.TheVariants.{Spawn, Whereis, RegisteredNames, Notices, SetLock, DelLock, Join as JoinBy}
 use Rattle.node_events.specs.declared.events.Letter.{Letter}
 use Rattle.node_events.specs.declared.events.Letter.TheVariants.{LockAnswer, GivenBack, Applied, JoinAsk, JoinRefused, Admit, Welcome, Down}
 use Rattle.node_events.specs.Made.{Made, HasRoom}
-use Rattle.node_core.specs.Held.{Held}
+use Rattle.node_core.specs.Held.{HeldCore}
 
 -- the operation is an admission
 abbrev pub is_admission : Option Op → Bool
@@ -31,13 +31,13 @@ moves_names admitting Down = admitting
 moves_names admitting _ = false
 
 -- what the event does may want memory behind a change of the node
-abbrev pub is_rare_event : Bool → Event → Bool
+abbrev pub is_rare_event : Bool → NodeEvent → Bool
 is_rare_event admitting (Call c) = is_join_call c
 is_rare_event admitting (FromPeer f l) = moves_names admitting l
 is_rare_event admitting _ = false
 
 -- the same, or a join is the next that the registrar starts
-abbrev pub is_rare : Event → Held → Bool
+abbrev pub is_rare : NodeEvent → HeldCore → Bool
 is_rare e h = is_rare_event (is_admission h.registrar.current) e || begins_with_join h.registrar.queue
 
 -- how many operations may be joins that are answered at once, since their contact has left
@@ -45,15 +45,15 @@ abbrev pub joins_in : List Op → ℕ
 joins_in ops = if begins_with_join ops then length ops else 0
 
 -- how many entries a step makes at most
-abbrev pub most_entries : Held → ℕ
+abbrev pub most_entries : HeldCore → ℕ
 most_entries h = 4 + joins_in h.registrar.queue
 
 -- how many answers a step gives at most
-abbrev pub most_answers : Held → ℕ
+abbrev pub most_answers : HeldCore → ℕ
 most_answers h = 4 + joins_in h.registrar.queue + length h.calls.calls
 
 -- a step of the node made no more than that
-pub record IsFew (h : Held) (m : Made) : Type 0 where
+pub record IsFew (h : HeldCore) (m : Made) : Type 0 where
   pub entries : length m.entries ≤ most_entries h
   pub answers : length m.answers ≤ most_answers h
 

@@ -2,7 +2,7 @@
 ghost use Rattle.std.specs.Prelude.{◌≡◌};
 ghost use Rattle.node_core.specs.Causes.{event_by};
 
-use node_events::{Call, Event, Letter};
+use node_events::{Call, Letter, NodeEvent};
 use term::{Node, Pid};
 
 /// What a node takes a step for. What may take memory to copy is lent.
@@ -22,15 +22,15 @@ pub enum Cause<'a> {
 
 impl<'a> Cause<'a> {
     /// An event, lent.
-    pub fn of(event: &'a Event) -> Self
+    pub fn of(event: &'a NodeEvent) -> Self
         ensures { event_by result ≡ event.now }
     {
         match event {
-            Event::Call(call) => Cause::Call(call),
-            Event::FromPeer(from, letter) => Cause::FromPeer(from, letter),
-            Event::Retry => Cause::Retry,
-            Event::Exit(process) => Cause::Exit(process),
-            Event::Leave => Cause::Leave,
+            NodeEvent::Call(call) => Cause::Call(call),
+            NodeEvent::FromPeer(from, letter) => Cause::FromPeer(from, letter),
+            NodeEvent::Retry => Cause::Retry,
+            NodeEvent::Exit(process) => Cause::Exit(process),
+            NodeEvent::Leave => Cause::Leave,
         }
     }
 }

@@ -7,6 +7,7 @@ mod node;
 pub use cause::Cause;
 pub use node::NodeCore;
 pub use node_events::{
-    Answer, Call, Entry, Event, Letter, Look, NameList, Notice, NoticeList, Reply, StepFault, Turn,
+    Answer, Call, Entry, Letter, Look, NameList, NodeEvent, Notice, NoticeList, Reply, StepFault,
+    Turn,
 };
 pub use transaction::{NameCall, Nodes, Op, Retries};

@@ -64,9 +64,9 @@ pub struct NodeCore<N: Names> {
 }
 
 impl<N: Names> Model for NodeCore<N> {
-    ghost use Rattle.node_core.specs.Held.{Held, IsWhole};
+    ghost use Rattle.node_core.specs.Held.{HeldCore, IsWhole};
 
-    ghost Value = { Held };
+    ghost Value = { HeldCore };
 
     ghost view = { λ c. record {
       name = c.node;

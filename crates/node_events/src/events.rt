@@ -114,7 +114,7 @@ pub enum Call {
 
 /// What may happen at a node.
 #[derive(Debug, PartialEq, Eq, Drop)]
-pub enum Event {
+pub enum NodeEvent {
     /// A client calls.
     Call(Call),
     /// A letter from a node is read.

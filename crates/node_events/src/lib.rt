@@ -6,7 +6,7 @@ mod name_list;
 mod notice_list;
 mod turn;
 
-pub use events::{Answer, Call, Entry, Event, Letter, Look, Reply, StepFault};
+pub use events::{Answer, Call, Entry, Letter, Look, NodeEvent, Reply, StepFault};
 pub use exchange::Notice;
 pub use name_list::NameList;
 pub use name_table::copied_pairs;

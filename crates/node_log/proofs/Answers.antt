@@ -5,24 +5,24 @@ use Rattle.std.proofs.lemmas.Bool.{eqb-true}
 use Rattle.std.proofs.lemmas.List.{map-append}
 use Rattle.std.proofs.lemmas.List.Quantifiers.{position-Some}
 use Rattle.world_events.specs.declared.Answer.{Answer}
-use Rattle.node_log.specs.declared.entry.KeptEntry.{KeptEntry}
-use Rattle.node_log.specs.Entries.{Entry, IsPlaceOf, entry_in}
+use Rattle.node_log.specs.declared.entry.KeptStep.{KeptStep}
+use Rattle.node_log.specs.Entries.{LogEntry, IsPlaceOf, entry_in}
 use Rattle.node_log.specs.Logs.{answered}
 
 -- the step that is behind these gets these answers
-pub answered_behind : (given : List Answer) (steps : List Entry) (e : Entry)
+pub answered_behind : (given : List Answer) (steps : List LogEntry) (e : LogEntry)
     → steps ++ record e { answers = given } ∷ [] ≡ answered given (steps ++ e ∷ [])
 answered_behind given [] e = refl
 answered_behind given (x ∷ []) e = refl
-answered_behind given (x ∷ y ∷ steps) e = ap (λ (l : List Entry). x ∷ l) (answered_behind given (y ∷ steps) e)
+answered_behind given (x ∷ y ∷ steps) e = ap (λ (l : List LogEntry). x ∷ l) (answered_behind given (y ∷ steps) e)
 
 module _ (node : ℕ) (nodes : List ℕ) (given : List Answer) where
   -- where what is kept last gets these answers, so does the last step
-  pub answered_last : (kept : List KeptEntry) (e f : KeptEntry)
+  pub answered_last : (kept : List KeptStep) (e f : KeptStep)
       → entry_in node nodes f ≡ record (entry_in node nodes e) { answers = given }
       → map (entry_in node nodes) (kept ++ f ∷ []) ≡ answered given (map (entry_in node nodes) (kept ++ e ∷ []))
   answered_last kept e f same = map-append (entry_in node nodes) kept (f ∷ [])
-      ∙ ap (λ (x : Entry). map (entry_in node nodes) kept ++ x ∷ []) same
+      ∙ ap (λ (x : LogEntry). map (entry_in node nodes) kept ++ x ∷ []) same
       ∙ answered_behind given (map (entry_in node nodes) kept) (entry_in node nodes e)
       ∙ ap (answered given) (sym (map-append (entry_in node nodes) kept (e ∷ [])))
 

@@ -3,14 +3,14 @@ use Rattle.std.specs.Prelude.{ℕ, Bool, ◌<◌, ◌≡◌, Option, None, List,
 use Rattle.world_events.specs.declared.Answer.{Answer}
 use Rattle.world_events.specs.declared.events.WorldEvent.{WorldEvent}
 use Rattle.world_events.specs.declared.events.WorldEvent.TheVariants.{Deliver}
-use Rattle.node_log.specs.declared.entry.KeptEntry.{KeptEntry}
+use Rattle.node_log.specs.declared.entry.KeptStep.{KeptStep}
 use Rattle.node_log.specs.declared.entry.KeptEvent.{KeptEvent}
 use Rattle.node_log.specs.declared.entry.KeptEvent.TheVariants.{Delivery, Other}
 use Rattle.node_log.specs.declared.entry.OwnEvent.{OwnEvent}
 use Rattle.node_log.specs.declared.entry.OwnEvent.TheVariants as own
 
 -- one step: its stamp, the seat that called, if one did, the event, and what was answered
-pub record Entry : Type 0 where
+pub record LogEntry : Type 0 where
   pub stamp : ℕ
   pub seat : Option ℕ
   pub event : WorldEvent
@@ -19,7 +19,7 @@ pub record Entry : Type 0 where
 -- the log of a node
 pub record Logged : Type 0 where
   pub node : ℕ
-  pub entries : List Entry  -- the oldest first
+  pub entries : List LogEntry  -- the oldest first
   pub has_room : Bool  -- for a step more
 
 -- the seat of an event that is kept
@@ -38,7 +38,7 @@ event_in node nodes (Delivery k) = Deliver (slice_index_or nodes k 0) node
 event_in node nodes (Other asked) = event_at node asked.value.event
 
 -- the step that is kept
-abbrev pub entry_in : ℕ → List ℕ → KeptEntry → Entry
+abbrev pub entry_in : ℕ → List ℕ → KeptStep → LogEntry
 entry_in node nodes e = record {
   stamp = e.stamp;
   seat = seat_in e.event;

@@ -28,14 +28,14 @@ pub(crate) enum KeptEvent {
 
 /// What is kept of a step.
 #[derive(Debug, Drop)]
-pub(crate) struct KeptEntry {
+pub(crate) struct KeptStep {
     pub(crate) stamp: u64,
     pub(crate) event: KeptEvent,
     pub(crate) answers: Vec<Answer>,
 }
 
 // Logs are kept whole until the cluster is closed: so an entry is small.
-const _: () = prove!(size_of::<KeptEntry>() == 48);
+const _: () = prove!(size_of::<KeptStep>() == 48);
 
 /// The event of a step, in a log.
 #[derive(Clone, Copy, Debug)]

@@ -5,7 +5,7 @@ ghost use Rattle.world_events.specs.declared.events.WorldEvent.TheVariants.{Deli
 ghost use Rattle.node_log.specs.Entries.{IsPlaceOf, event_at};
 ghost use Rattle.node_log.specs.Logs.{entry_of, event_of, answered};
 
-use crate::entry::{Asked, KeptEntry, KeptEvent, LoggedEntry, LoggedEvent, OwnEvent};
+use crate::entry::{Asked, KeptEvent, KeptStep, LoggedEntry, LoggedEvent, OwnEvent};
 use crate::record::Record;
 use std::alloc::{AllocError, Global};
 use std::marker::Model;
@@ -18,7 +18,7 @@ pub struct Log {
     node: Node,
     /// The nodes whose deliveries are kept by their places.
     nodes: NodeSet,
-    entries: Vec<KeptEntry>,
+    entries: Vec<KeptStep>,
     /// Memory for the next event that isn't kept by a place.
     spare: Option<Box<Asked>>,
 }
@@ -161,7 +161,7 @@ impl Log {
         };
         *asked = Asked { seat, event };
         let alloc = *self.entries.allocator();
-        self.entries.push_reserved(KeptEntry {
+        self.entries.push_reserved(KeptStep {
             stamp,
             event: KeptEvent::Other(asked),
             answers: Vec::new(alloc),
@@ -180,7 +180,7 @@ impl Log {
             return;
         };
         let alloc = *self.entries.allocator();
-        self.entries.push_reserved(KeptEntry {
+        self.entries.push_reserved(KeptStep {
             stamp,
             event: KeptEvent::Delivery(place),
             answers: Vec::new(alloc),
@@ -223,8 +223,8 @@ impl Log {
         let Some(last) = self.entries.pop() else {
             return;
         };
-        let KeptEntry { stamp, event, .. } = last;
-        self.entries.push_reserved(KeptEntry {
+        let KeptStep { stamp, event, .. } = last;
+        self.entries.push_reserved(KeptStep {
             stamp,
             event,
             answers,

@@ -6,9 +6,9 @@ use Rattle.registry_model.specs.Process.{Process}
 use Rattle.protocol_model.specs.Event.{Answer as AnyAnswer}
 use Rattle.node_log.specs.declared.Answer.{Answer}
 use Rattle.node_log.specs.declared.StepFault.TheVariants.{NotLive}
-use Rattle.node_log.specs.Entries.{Entry}
+use Rattle.node_log.specs.Entries.{LogEntry}
 use Rattle.node_log.specs.NodeEventsSeen.{answer_of}
-use Rattle.node_log.specs.NodeCoreHeld.{Held}
+use Rattle.node_log.specs.NodeCoreHeld.{HeldCore}
 use Rattle.node_log.specs.Openings.{opening_core}
 use Rattle.node_loop.specs.declared.item.Ticket.{Ticket}
 use Rattle.node_loop.specs.declared.replies.TaskFault.{TaskFault}
@@ -20,7 +20,7 @@ use Rattle.node_loop.specs.Told.{Came, Answered, Made, Left, Told, tell}
 use Rattle.node_loop.specs.Waiting.{is_dropped}
 use Rattle.node_loop.specs.Desks.{Kept, Begins, addressee, answered, all_answered, dead_told, drop_told, acceptance, awaiting, settled, leave_refused, call_refused, leaves_told, left_by}
 use Rattle.node_loop.specs.Held.{Looping, Written}
-use Rattle.node_loop.specs.Steps.{Cause, stamp_of, entry_of, desk_of, Makes, Rests, Begun}
+use Rattle.node_loop.specs.Steps.{StepCause, stamp_of, entry_of, desk_of, Makes, Rests, Begun}
 use Rattle.node_loop.specs.Items.{by_leave, Departs}
 use Rattle.node_loop.specs.Coming.{HandsOut, HandsOver, ComesBy, IsLoopOf}
 use Rattle.node_loop.specs.Answers.{LogsAnswer, told_answer, AnswersAreLogged}
@@ -39,7 +39,7 @@ front : {X : Type 0} (P : X → Type 0) (xs ys : List X) → All P (xs ++ ys) �
 front P xs ys h = All-weaker (Contains xs) P (λ x c. All-contains P (xs ++ ys) x h (Contains-append_left xs ys x c)) xs (All-contains_itself xs)
 
 -- an answer stays in a log that gets an entry more
-stays : (a b : Written) (e : Entry) → b ≡ record a { entries = a.entries ++ e ∷ [] } → (told : Told) → IsLogged a told → IsLogged b told
+stays : (a b : Written) (e : LogEntry) → b ≡ record a { entries = a.entries ++ e ∷ [] } → (told : Told) → IsLogged a told → IsLogged b told
 stays a b e is told = go told.outcome
   where
     go : (outcome : Result Came TaskFault) → Says a outcome → Says b outcome
@@ -62,7 +62,7 @@ module _ (log : Written) where
   told_each f each [] = All-nil (IsLogged log)
   told_each f each (x ∷ xs) = All-append (IsLogged log) (f x) (flat_map f xs) (each x) (told_each f each xs)
 
-  of_dropped : (h : Held) (c : Caller) → All (IsLogged log) (drop_told h c)
+  of_dropped : (h : HeldCore) (c : Caller) → All (IsLogged log) (drop_told h c)
   of_dropped h c = go (is_dropped h c) c.holder
     where
       go : (dropped : Bool) (holder : Option Process) → All (IsLogged log) (if dropped then dead_told holder c.ticket else [])
@@ -97,7 +97,7 @@ module _ (log : Written) where
         (told_so (addressee own k.calls a) (Ok (Answered stamp a)) (All-head (LogsAnswer log stamp) a rest given)))
 
     -- behind a step whose answers are logged
-    behind_step : (course : Course) (h : Held) (answers : List Answer) → All (LogsAnswer log stamp) (map answer_of answers) → (k : Kept)
+    behind_step : (course : Course) (h : HeldCore) (answers : List Answer) → All (LogsAnswer log stamp) (map answer_of answers) → (k : Kept)
         → All (IsLogged log) k.replies → All (IsLogged log) (settled stamp course own h answers k).replies
     behind_step course h answers given k before =
         All-append (IsLogged log) told.replies (flat_map (drop_told h) told.calls)
@@ -112,7 +112,7 @@ module _ (log : Written) where
 abbrev Logs : Looping → Type 0
 Logs b = All (IsLogged b.log) b.desk.replies
 
-module _ (k : Cause) (a b : Looping) (h : Logs a) (answers : List Answer) (log : b.log ≡ record a.log { entries = a.log.entries ++ entry_of k a answers ∷ [] }) where
+module _ (k : StepCause) (a b : Looping) (h : Logs a) (answers : List Answer) (log : b.log ≡ record a.log { entries = a.log.entries ++ entry_of k a answers ∷ [] }) where
   -- those of the step stand in its entry
   here : All (LogsAnswer b.log (stamp_of k a)) (map answer_of answers)
   here = All-weaker (Contains (map answer_of answers)) (LogsAnswer b.log (stamp_of k a)) (λ x c. record {
@@ -122,18 +122,18 @@ module _ (k : Cause) (a b : Looping) (h : Logs a) (answers : List Answer) (log :
     given = c;
   }) (map answer_of answers) (All-contains_itself (map answer_of answers))
 
-  due : (core : Held) → All (IsLogged b.log) (desk_of k a core answers).replies
+  due : (core : HeldCore) → All (IsLogged b.log) (desk_of k a core answers).replies
   due core = behind_step b.log (stamp_of k a) k.own k.course core answers here a.desk
       (All-weaker (IsLogged a.log) (IsLogged b.log) (stays a.log b.log (entry_of k a answers) log) a.desk.replies h)
 
-makes : (k : Cause) (a b : Looping) → Logs a → Makes k a b → Logs b
+makes : (k : StepCause) (a b : Looping) → Logs a → Makes k a b → Logs b
 makes k a b h M = subst (λ (d : Kept). All (IsLogged b.log) d.replies) (sym M.desk) (due k a b h M.turn.answers M.log b.core)
 
 -- what was told first of that is logged, too
 first_told : (log : Written) (some whole : List Told) → Begins some whole → All (IsLogged log) whole → All (IsLogged log) some
 first_told log some whole B h = front (IsLogged log) some B.0 (subst (All (IsLogged log)) B.1 h)
 
-begun : (k : Cause) (a b : Looping) → Logs a → Begun k (desk_of k a) a b → Logs b
+begun : (k : StepCause) (a b : Looping) → Logs a → Begun k (desk_of k a) a b → Logs b
 begun k a b h B = first_told b.log b.desk.replies _ B.replies (due k a b h B.turn.answers B.log b.core)
 
 rests : (a b : Looping) → Logs a → Rests a b → Logs b
@@ -164,7 +164,7 @@ hands_out a b h H = subst Logs (sym H.rest) (All-rest (IsLogged a.log) H.told b.
 hands_over : (a b : Looping) → Logs a → HandsOver a b → Logs b
 hands_over a b h e = subst Logs (sym e) h
 
-comes : (n stamp : ℕ) (core : Held) (b : Looping) → ComesBy n stamp core b → Logs b
+comes : (n stamp : ℕ) (core : HeldCore) (b : Looping) → ComesBy n stamp core b → Logs b
 comes zero stamp core b e = subst Logs (sym e) (All-nil (IsLogged (record { node = core.name; entries = [] })))
 comes (suc n) stamp core b x = elim x.2 [
   | inl T ↦ turns Logs kept x.0 b (comes n stamp core x.0 x.1) T

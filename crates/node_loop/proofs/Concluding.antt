@@ -1,11 +1,11 @@
 -- What comes behind a step of the core makes the step of the loop.
 use Rattle.std.proofs.Common.{◌≡◌, ◌<◌, ◌^◌, ℕ, Bool, true, false, inl, inr, Option, Ok, Err, List, [], ◌∷◌, ◌++◌, refl, sym, ap, subst, ◌∙◌, MatchBool, append-nil, arith}
-use Rattle.node_events.specs.declared.events.Event.{Event as NodeEvent}
-use Rattle.node_log.specs.NodeCoreHeld.{Held}
+use Rattle.node_events.specs.declared.events.NodeEvent.{NodeEvent}
+use Rattle.node_log.specs.NodeCoreHeld.{HeldCore}
 use Rattle.node_log.specs.NodeCoreMade.{Made as Turn}
 use Rattle.node_log.specs.NodeCoreSteps.{Steps}
 use Rattle.node_log.specs.declared.WorldEvent.{WorldEvent}
-use Rattle.node_log.specs.Entries.{Entry}
+use Rattle.node_log.specs.Entries.{LogEntry}
 use Rattle.node_log.specs.Logs.{answered}
 use Rattle.node_loop.specs.declared.item.Ticket.{Ticket}
 use Rattle.node_loop.specs.declared.fault.TurnFault.{TurnFault}
@@ -15,16 +15,16 @@ use Rattle.node_loop.specs.Desks.{Kept, Begins, settled, left_by}
 use Rattle.node_loop.specs.declared.edit.Owed.{Owed}
 use Rattle.node_loop.specs.Held.{Looping, Written, with_letters}
 use Rattle.node_loop.specs.Owing.{KeepsOwing}
-use Rattle.node_loop.specs.Steps.{Cause, stamp_of, entry_of, desk_of, IsNoted, Makes, Begun, IsSpent, Ends, Concludes}
+use Rattle.node_loop.specs.Steps.{StepCause, stamp_of, entry_of, desk_of, IsNoted, Makes, Begun, IsSpent, Ends, Concludes}
 use Rattle.node_loop.proofs.Logs.{answered_last}
 use Rattle.node_loop.proofs.Letters.{puts_at}
 use Rattle.node_loop.proofs.Telling.{begins_on, begins_as, left_begins}
 
 -- the entry is last in the log, and has no answers yet
-abbrev pub begun_entry : Cause → Looping → Entry
+abbrev pub begun_entry : StepCause → Looping → LogEntry
 begun_entry k a = entry_of k a []
 
-module _ (k : Cause) (a : Looping) (core : Held) (log : Written) (owed : Owed) (s : ℕ) (own : Option Ticket) (course : Course) (turn : Turn) (b : Looping) where
+module _ (k : StepCause) (a : Looping) (core : HeldCore) (log : Written) (owed : Owed) (s : ℕ) (own : Option Ticket) (course : Course) (turn : Turn) (b : Looping) where
   abbrev logged_by : Written
   logged_by = record a.log { entries = a.log.entries ++ entry_of k a turn.answers ∷ [] }
 
@@ -33,7 +33,7 @@ module _ (k : Cause) (a : Looping) (core : Held) (log : Written) (owed : Owed) (
       → b.log ≡ record log { entries = answered turn.answers log.entries } → b.log ≡ logged_by
   log_path l e =
       e ∙ ap (λ (x : Written). record x { entries = answered turn.answers x.entries }) l
-      ∙ ap (λ (es : List Entry). record a.log { entries = es }) (answered_last turn.answers a.log.entries (begun_entry k a))
+      ∙ ap (λ (es : List LogEntry). record a.log { entries = es }) (answered_last turn.answers a.log.entries (begun_entry k a))
 
   -- the desk, by the names that the step has
   desk_path : s ≡ stamp_of k a → own ≡ k.own → course ≡ k.course → b.core ≡ core
@@ -46,7 +46,7 @@ module _ (k : Cause) (a : Looping) (core : Held) (log : Written) (owed : Owed) (
       → IsNoted k a b × KeepsOwing a b
 
   stepped_to : b.core ≡ core → Steps k.event a.core core turn → Steps k.event a.core b.core turn
-  stepped_to same step = subst (λ (h : Held). Steps k.event a.core h turn) (sym same) step
+  stepped_to same step = subst (λ (h : HeldCore). Steps k.event a.core h turn) (sym same) step
 
   module _ {E : Type 0} (step : Steps k.event a.core core turn) (l : log ≡ record a.log { entries = a.log.entries ++ begun_entry k a ∷ [] }) (e : s ≡ stamp_of k a) (o : own ≡ k.own) (q : course ≡ k.course) (owes : OwesSo) where
     -- so the step is made
@@ -81,7 +81,7 @@ module _ (k : Cause) (a : Looping) (core : Held) (log : Written) (owed : Owed) (
     }
 
 -- the core's step, of what its event is
-pub stepped : (e f : NodeEvent) (old new : Held) (turn : Turn) → e ≡ f → Steps e old new turn → Steps f old new turn
+pub stepped : (e f : NodeEvent) (old new : HeldCore) (turn : Turn) → e ≡ f → Steps e old new turn → Steps f old new turn
 stepped e f old new turn p h = subst (λ (x : NodeEvent). Steps x old new turn) p h
 
 -- the log, where a step was put at its end, with room that was made
@@ -96,18 +96,18 @@ begun old mid new s t seat seat_is w v m n es p q r =
     }
 
 -- a stamp was left for the step
-pub unspent : (k : Cause) (a : Looping) (s : ℕ) → s ≡ stamp_of k a → s < 2 ^ 64 → IsSpent k a → ⊥
+pub unspent : (k : StepCause) (a : Looping) (s : ℕ) → s ≡ stamp_of k a → s < 2 ^ 64 → IsSpent k a → ⊥
 unspent k a s e l spent = omega (arith, e, l, spent)
 
 -- the step of a leave was made, and there was no memory to tell all who are to be told
-pub ends_left : (k : Cause) (a m b : Looping) → Makes k a m → b ≡ record m { left = true; desk = b.desk; owed = b.owed }
+pub ends_left : (k : StepCause) (a m b : Looping) → Makes k a m → b ≡ record m { left = true; desk = b.desk; owed = b.owed }
     → IsNoted k a b × KeepsOwing a b → Begins b.desk.replies (left_by m.desk).replies
     → Ends Memory k (λ core answers. left_by (desk_of k a core answers)) a b
 ends_left k a m b M is owing told = (
   unspent k a (stamp_of k a) refl M.fits,
   inr (record {
     turn = M.turn;
-    step = subst (λ (h : Held). Steps k.event a.core h M.turn) (sym core) M.step;
+    step = subst (λ (h : HeldCore). Steps k.event a.core h M.turn) (sym core) M.step;
     log = ap (λ (l : Looping). l.log) is ∙ M.log;
     tray = record {
       put = M.turn.letters;
@@ -116,7 +116,7 @@ ends_left k a m b M is owing told = (
       tray = ap (λ (l : Looping). l.tray) is ∙ M.tray;
     };
     replies = begins_as _ _ _ _ refl (ap (λ (d : Kept). (left_by d).replies)
-        (M.desk ∙ ap (λ (h : Held). desk_of k a h M.turn.answers) (sym core))) told;
+        (M.desk ∙ ap (λ (h : HeldCore). desk_of k a h M.turn.answers) (sym core))) told;
     noted = owing.0;
     owing = owing.1;
   }),
@@ -126,7 +126,7 @@ ends_left k a m b M is owing told = (
     core = ap (λ (l : Looping). l.core) is
 
 -- the thread ends within the step of a leave
-pub ends_leaving : (why : TurnFault) (k : Cause) (a b : Looping) → Ends why k (desk_of k a) a b
+pub ends_leaving : (why : TurnFault) (k : StepCause) (a b : Looping) → Ends why k (desk_of k a) a b
     → Ends why k (λ core answers. left_by (desk_of k a core answers)) a b
 ends_leaving StampsSpent k a b h = h
 ends_leaving Memory k a b h = (

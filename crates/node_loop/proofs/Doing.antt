@@ -10,20 +10,20 @@ use Rattle.protocol_model.specs.Calling.{event}
 use Rattle.protocol_model.specs.Reading.{receive}
 use Rattle.protocol_model.specs.World.{Opening, in_world, other}
 use Rattle.protocol_model.specs.World.{WorldEvent as AnyWorldEvent}
-use Rattle.closings.specs.Alone.{Stamped as StampedLetter, Entry as SeenEntry, Made, IsTurnOf}
+use Rattle.closings.specs.Alone.{Stamped as StampedLetter, StepEntry as SeenEntry, Made, IsTurnOf}
 use Rattle.closings.specs.Guarded.{SaysFit, ReadsIfFit, DoesIfFit}
 use Rattle.term.specs.Nodes.{IsFirst}
 use Rattle.term.specs.NodeSets.{set_of, with_older}
 use Rattle.term.proofs.Older.{held}
 use Rattle.node_log.specs.declared.Call.{Call as ClientCall}
 use Rattle.node_log.specs.declared.Call.TheVariants.{Spawn, Whereis, RegisteredNames, Notices, Register, ReRegister, Unregister, SetLock, DelLock, Join as JoinBy}
-use Rattle.node_events.specs.declared.events.Event.TheVariants.{FromPeer}
+use Rattle.node_events.specs.declared.events.NodeEvent.TheVariants.{FromPeer}
 use Rattle.node_log.specs.declared.Event.{Event}
 use Rattle.node_log.specs.declared.Event.TheVariants.{Call, Retry, Exit, Leave}
 use Rattle.node_log.specs.declared.Letter.{Letter}
 use Rattle.node_events.specs.Letters.{letter_of, send_of}
 use Rattle.node_log.specs.NodeEventsSeen.{answer_of, unnumbered}
-use Rattle.node_log.specs.NodeCoreHeld.{Held, bound_of}
+use Rattle.node_log.specs.NodeCoreHeld.{HeldCore, bound_of}
 use Rattle.node_log.specs.NodeCoreMade.{Made as Turn}
 use Rattle.node_log.specs.NodeCoreSeen.{node_of, turn_by}
 use Rattle.node_log.specs.NodeCoreSteps.{Steps, IsSaidBy, IsAskedWithin, IsHeardWithin, GoWithin}
@@ -64,7 +64,7 @@ asks nodes (DelLock p id asked) known = tt
 asks nodes (JoinBy m) known = known
 
 -- the step of an event of its own is the protocol's
-pub own_turn : (h core : Held) (turn : Turn) (e : Event) → Steps (node_event e) h core turn → knows_contact h.world e ≡ true
+pub own_turn : (h core : HeldCore) (turn : Turn) (e : Event) → Steps (node_event e) h core turn → knows_contact h.world e ≡ true
     → turn_by unnumbered core turn ≡ event (bound_of h.world) h.name (set_of h.world) (own_event_of e) (begun (node_of h))
 own_turn h core turn (Call c) S known = S.turn unnumbered (asks h.world c known)
 own_turn h core turn Retry S known = S.turn unnumbered
@@ -72,10 +72,10 @@ own_turn h core turn (Exit p) S known = S.turn unnumbered
 own_turn h core turn Leave S known = S.turn unnumbered
 
 -- a step that a core made, and its entry, as the protocol has them
-abbrev pub made : Held → Turn → SeenEntry → Made
+abbrev pub made : HeldCore → Turn → SeenEntry → Made
 made core turn entry = record { entry = entry; after = node_of core; sends = map send_of turn.letters }
 
-module _ (o : Opening) (h : Held) (I : IsNodeOf o h) where
+module _ (o : Opening) (h : HeldCore) (I : IsNodeOf o h) where
   inside : (c : ℕ) → set_of h.world c ≡ true → in_world o c ≡ true
   inside c e = ap (λ (s : Nodes). s c) I.inside ∙ e
 
@@ -104,7 +104,7 @@ module _ (o : Opening) (h : Held) (I : IsNodeOf o h) where
   hears (Exit p) known = tt
   hears Leave known = tt
 
-  module _ (core : Held) (turn : Turn) (entry : SeenEntry) (answered : entry.answers ≡ map answer_of turn.answers) where
+  module _ (core : HeldCore) (turn : Turn) (entry : SeenEntry) (answered : entry.answers ≡ map answer_of turn.answers) where
     is_turn : (number : ℕ → ℕ) (u : AnyTurn) → turn_by number core turn ≡ u → IsTurnOf (made core turn entry) u
     is_turn number u e = record {
       node = sym (ap (λ (x : AnyTurn). x.node) e);

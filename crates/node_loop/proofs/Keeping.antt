@@ -16,7 +16,7 @@ use Rattle.node_log.specs.declared.Event.TheVariants.{Call, Retry, Exit, Leave}
 use Rattle.node_log.specs.declared.WorldEvent.TheVariants.{At, Deliver}
 use Rattle.node_log.specs.Events.{event_of, knows_contact, is_leave as leaves_by}
 use Rattle.node_log.specs.NodeEventsSeen.{answer_of}
-use Rattle.node_log.specs.NodeCoreHeld.{Held}
+use Rattle.node_log.specs.NodeCoreHeld.{HeldCore}
 use Rattle.node_log.specs.NodeCoreMade.{Made as Turn}
 use Rattle.node_log.specs.NodeCoreSeen.{node_of}
 use Rattle.node_log.specs.NodeCoreSteps.{Steps, IsAsBefore}
@@ -30,7 +30,7 @@ use Rattle.node_loop.specs.declared.fault.TurnFault.{TurnFault}
 use Rattle.node_loop.specs.declared.fault.TurnFault.TheVariants.{StampsSpent, Memory}
 use Rattle.node_loop.specs.Desks.{Kept, left_by}
 use Rattle.node_loop.specs.Held.{Looping, has_retry, has_leave, is_due, is_free_to_leave, can_step}
-use Rattle.node_loop.specs.Steps.{Cause, Outcome, by_event, by_letter, stamp_of, entry_of, desk_of, Makes, Ends, Goes}
+use Rattle.node_loop.specs.Steps.{StepCause, Outcome, by_event, by_letter, stamp_of, entry_of, desk_of, Makes, Ends, Goes}
 use Rattle.node_loop.specs.Items.{with_leave, Refuses, WaitsToLeave, Asks, Accepts, Handles, by_leave, leaver, Departs, Leaves, Then, Waits, behind_item, Hears, Works, Idles}
 use Rattle.node_loop.specs.Turned.{Took, Missed, Turned}
 use Rattle.node_loop.specs.Said.{IsSaid}
@@ -41,7 +41,7 @@ use Rattle.node_loop.proofs.Doing.{made, other_inside, own_does, letter_does}
 use Rattle.node_loop.proofs.Standing.{besides, ends_still, ends_more, stands_more, sent_off, taken}
 
 -- the node is as it was
-as_it_is : (h : Held) → IsAsBefore h h
+as_it_is : (h : HeldCore) → IsAsBefore h h
 as_it_is h = record { name = refl; world = refl; node = refl }
 
 left_both : (x y : Bool) → (x && y) ≡ true → x ≡ true
@@ -71,10 +71,10 @@ module _ (o : Opening) (d : Dealt) where
   Comes r b = MatchResult r (λ _. IsSound o b d) (λ _. EndsSound o b d)
 
   -- a step for this cause is one of the node, which has these letters to read, and reads them
-  record Fits (unread : ℕ → List StampedLetter) (a : Looping) (k : Cause) : Type 0 where
+  record Fits (unread : ℕ → List StampedLetter) (a : Looping) (k : StepCause) : Type 0 where
     own : place (event_of k.logged) ≡ a.core.name
     known : in_world o (other (event_of k.logged)) ≡ true
-    does : (core : Held) (turn : Turn) → Steps k.event a.core core turn
+    does : (core : HeldCore) (turn : Turn) → Steps k.event a.core core turn
         → DoesIfFit (IsSaid (in_world o)) o unread (node_of a.core) (made core turn (seen_entry (entry_of k a turn.answers))) (event_of k.logged)
     read : unread_after (event_of k.logged) unread ≡ (λ f. [])
 
@@ -110,7 +110,7 @@ module _ (o : Opening) (d : Dealt) where
 
   module _ (unread : ℕ → List StampedLetter) (a b : Looping) (S : Stands o unread a d) (run : a.left ≡ false) where
     -- a step is made
-    makes : (k : Cause) → Fits unread a k → Makes k a b → (c : Looping) → c ≡ record b { left = c.left; desk = c.desk; owed = c.owed }
+    makes : (k : StepCause) → Fits unread a k → Makes k a b → (c : Looping) → c ≡ record b { left = c.left; desk = c.desk; owed = c.owed }
         → (c.left ≡ false → is_leave (event_of k.logged) ≡ false) → IsSound o c d
     makes k F M c is stays =
         subst (λ (u : ℕ → List StampedLetter). Stands o u c d) F.read
@@ -119,7 +119,7 @@ module _ (o : Opening) (d : Dealt) where
         (ap (λ (l : Looping). l.tray) is ∙ M.tray) (ap (λ (l : Looping). l.world) is ∙ M.world) stays)
 
     -- or the thread ends within it
-    ends : (why : TurnFault) (k : Cause) (due : Held → List Answer → Kept) → Fits unread a k → Ends why k due a b → EndsSound o b d
+    ends : (why : TurnFault) (k : StepCause) (due : HeldCore → List Answer → Kept) → Fits unread a k → Ends why k due a b → EndsSound o b d
     ends StampsSpent k due F h = ends_still o unread a d S b (ap (λ (l : Looping). l.log) h.1)
         (subst (λ (x : Looping). IsAsBefore a.core x.core) (sym h.1) (as_it_is a.core))
     ends Memory k due F h = elim h.1 [
@@ -127,7 +127,7 @@ module _ (o : Opening) (d : Dealt) where
       | inr begun ↦ ends_more o unread a d S run k b.core begun.turn begun.step F.own F.known (F.does b.core begun.turn begun.step) b refl begun.log
     ]
 
-    goes : (k : Cause) → Fits unread a k → is_leave (event_of k.logged) ≡ false → (r : Outcome) → Goes k a r b → Comes r b
+    goes : (k : StepCause) → Fits unread a k → is_leave (event_of k.logged) ≡ false → (r : Outcome) → Goes k a r b → Comes r b
     goes k F stays (Ok u) M = makes k F M b refl (λ _. stays)
     goes k F stays (Err why) E = ends why k (desk_of k a) F E
 

@@ -15,7 +15,7 @@ use Rattle.node_loop.specs.declared.fault.TurnFault.TheVariants.{StampsSpent, Me
 use Rattle.node_loop.specs.Told.{tell}
 use Rattle.node_loop.specs.Desks.{left_by}
 use Rattle.node_loop.specs.Held.{Looping, is_due, is_free_to_leave, can_step}
-use Rattle.node_loop.specs.Steps.{Cause, Outcome, by_event, by_letter, desk_of, Makes, Rests, Begun, Ends, Goes}
+use Rattle.node_loop.specs.Steps.{StepCause, Outcome, by_event, by_letter, desk_of, Makes, Rests, Begun, Ends, Goes}
 use Rattle.node_loop.specs.Items.{Refuses, WaitsToLeave, Asks, Accepts, Handles, by_leave, Departs, Leaves, Then, Waits, behind_item, Hears, Works, Idles}
 use Rattle.node_loop.specs.Turned.{Took, Missed, Turned}
 use Rattle.node_loop.specs.Coming.{Turns}
@@ -27,9 +27,9 @@ pub record IsKept (P : Looping → Type 0) : Type 0 where
   pub refuses : (a : Looping) (ticket : Option Ticket) (fault : TaskFault) → P a
       → P (record a { desk = record a.desk { replies = a.desk.replies ++ tell ticket (Err fault) } })
   pub waits : (a : Looping) (ticket : Option Ticket) → P a → P (record a { desk = record a.desk { leaves = a.desk.leaves ++ ticket ∷ [] } })
-  pub makes : (k : Cause) (a b : Looping) → P a → Makes k a b → P b
+  pub makes : (k : StepCause) (a b : Looping) → P a → Makes k a b → P b
   pub rests : (a b : Looping) → P a → Rests a b → P b
-  pub begun : (k : Cause) (a b : Looping) → P a → Begun k (desk_of k a) a b → P b
+  pub begun : (k : StepCause) (a b : Looping) → P a → Begun k (desk_of k a) a b → P b
   pub departs : (a b : Looping) → P a → Departs a b → P b
   pub departing : (a b : Looping) → P a → Begun (by_leave a) (λ core answers. left_by (desk_of (by_leave a) a core answers)) a b → P b
 
@@ -37,11 +37,11 @@ module _ (P : Looping → Type 0) (K : IsKept P) where
   same : (a b : Looping) → b ≡ a → P a → P b
   same a b e h = subst P (sym e) h
 
-  ends : (k : Cause) (a b : Looping) → P a → (why : TurnFault) → Ends why k (desk_of k a) a b → P b
+  ends : (k : StepCause) (a b : Looping) → P a → (why : TurnFault) → Ends why k (desk_of k a) a b → P b
   ends k a b h StampsSpent E = same a b E.1 h
   ends k a b h Memory E = elim E.1 [ inl R ↦ K.rests a b h R | inr B ↦ K.begun k a b h B ]
 
-  goes : (k : Cause) (a b : Looping) → P a → (r : Outcome) → Goes k a r b → P b
+  goes : (k : StepCause) (a b : Looping) → P a → (r : Outcome) → Goes k a r b → P b
   goes k a b h (Ok u) M = K.makes k a b h M
   goes k a b h (Err why) E = ends k a b h why E
 

@@ -17,15 +17,15 @@ use Rattle.term.proofs.Older.{held}
 use Rattle.node_log.specs.declared.Event.{Event}
 use Rattle.node_log.specs.declared.Event.TheVariants as event
 use Rattle.node_log.specs.declared.Answer.{Answer}
-use Rattle.node_events.specs.declared.events.Event.TheVariants.{FromPeer}
+use Rattle.node_events.specs.declared.events.NodeEvent.TheVariants.{FromPeer}
 use Rattle.node_log.specs.declared.Letter.{Letter}
 use Rattle.node_log.specs.declared.Letter.TheVariants.{SetLock, LockAnswer, GiveBack, GivenBack, ReleaseOf, Apply, Applied, JoinAsk, JoinRefused, Admit, Welcome, Down}
-use Rattle.node_log.specs.NodeCoreHeld.{Held, bound_of}
+use Rattle.node_log.specs.NodeCoreHeld.{HeldCore, bound_of}
 use Rattle.node_log.specs.NodeCoreMade.{Made as Turn}
 use Rattle.node_log.specs.NodeCoreSeen.{node_of}
 use Rattle.node_log.specs.NodeCoreSteps.{Steps, IsSaidBy}
 use Rattle.node_events.specs.Letters.{letter_of}
-use Rattle.node_log.specs.Entries.{Entry}
+use Rattle.node_log.specs.Entries.{LogEntry}
 use Rattle.node_log.specs.Events.{node_event, own_event_of, knows_contact}
 use Rattle.node_loop.specs.declared.edit.Edit.TheVariants as edit
 use Rattle.node_loop.specs.declared.edit.Edition.{Edition}
@@ -37,7 +37,7 @@ use Rattle.node_loop.specs.Owing.{first_note, with_note, shown_by, LeadsTo, Owes
 use Rattle.node_loop.specs.Held.{Looping, Written}
 use Rattle.node_loop.specs.declared.item.Ticket.{Ticket}
 use Rattle.node_loop.specs.declared.item.Stamped.{Stamped}
-use Rattle.node_loop.specs.Steps.{Cause, by_event, by_letter, entry_of, IsNoted, Makes, Rests}
+use Rattle.node_loop.specs.Steps.{StepCause, by_event, by_letter, entry_of, IsNoted, Makes, Rests}
 use Rattle.node_loop.specs.Coming.{Turns}
 use Rattle.node_loop.specs.Items.{by_leave, with_leave}
 use Rattle.node_loop.proofs.Doing.{own_turn}
@@ -106,13 +106,13 @@ noted note a b N e O = record {
     within = omega (arith, ap (λ (o : Owed). o.length) N.owed, length_within a.owed note (length a.log.entries + 1) less, N.entries)
 
 -- one entry more was put into a log
-pub one_more : (n : ℕ) (before mid after : List Entry) (e : Entry) → n ≡ length after → after ≡ mid ++ e ∷ [] → mid ≡ before
+pub one_more : (n : ℕ) (before mid after : List LogEntry) (e : LogEntry) → n ≡ length after → after ≡ mid ++ e ∷ [] → mid ≡ before
     → n ≡ length before + 1
 one_more n before mid after e at more same =
-    at ∙ (ap (λ (l : List Entry). length l) more ∙ (length-append mid (e ∷ []) ∙ ap (λ (l : List Entry). length l + 1) same))
+    at ∙ (ap (λ (l : List LogEntry). length l) more ∙ (length-append mid (e ∷ []) ∙ ap (λ (l : List LogEntry). length l + 1) same))
 
 -- Behind a step the table is that of the protocol's
-module _ (h k : Held) (made : Turn) where
+module _ (h k : HeldCore) (made : Turn) where
   pub behind_letter_read : (f : ℕ) (l : Letter) → Steps (FromPeer f l) h k made → IsSaidBy h.world h.name f l
       → k.table ≡ (behind h.name f (letter_of l) (node_of h)).table
   behind_letter_read f l step said =
@@ -126,13 +126,13 @@ module _ (h k : Held) (made : Turn) where
       ∙ ap (λ (v : Replica). v.table) (events_keep (bound_of h.world) h.name (set_of h.world) (own_event_of e) (node_of h))
 
 -- the log has an entry more
-entry_more : (k : Cause) (a b : Looping) (answers : List Answer) → b.log ≡ record a.log { entries = a.log.entries ++ entry_of k a answers ∷ [] }
+entry_more : (k : StepCause) (a b : Looping) (answers : List Answer) → b.log ≡ record a.log { entries = a.log.entries ++ entry_of k a answers ∷ [] }
     → length b.log.entries ≡ length a.log.entries + 1
 entry_more k a b answers log =
     ap (λ (l : Written). length l.entries) log ∙ length-append a.log.entries (entry_of k a answers ∷ [])
 
 -- nothing is noted for it
-notes_nothing : (e : Event) (h : Held) → Notes (node_event e) Nothing h
+notes_nothing : (e : Event) (h : HeldCore) → Notes (node_event e) Nothing h
 notes_nothing (event.Call c) h = refl
 notes_nothing event.Retry h = refl
 notes_nothing (event.Exit p) h = refl
@@ -211,7 +211,7 @@ owing_by_leave a m b M owed is = (
     log = ap (λ (l : Looping). l.log) is ∙ M.log
 
 -- a letter that leaves the table, or whose writing is known
-module _ (f : ℕ) (h : Held) where
+module _ (f : ℕ) (h : HeldCore) where
   -- it is another node of the world
   abbrev known : Bool
   known = set_of h.world f && not (f == h.name)

@@ -1,7 +1,7 @@
 -- Where who asked is told an answer, the node's log has it, in the step whose stamp is told with it.
 use Rattle.std.specs.Prelude.{ℕ, ◌≡◌, Contains, map, Ok}
 use Rattle.protocol_model.specs.Event.{Answer as AnyAnswer}
-use Rattle.node_log.specs.Entries.{Entry}
+use Rattle.node_log.specs.Entries.{LogEntry}
 use Rattle.node_log.specs.NodeEventsSeen.{answer_of}
 use Rattle.node_loop.specs.declared.item.Ticket.{Ticket}
 use Rattle.node_loop.specs.Told.{Told, Answered}
@@ -10,7 +10,7 @@ use Rattle.node_loop.specs.Coming.{IsLoopOf}
 
 -- some step of the log has this stamp, and gives this answer
 pub record LogsAnswer (log : Written) (stamp : ℕ) (answer : AnyAnswer) : Type 0 where
-  pub entry : Entry
+  pub entry : LogEntry
   pub logged : Contains log.entries entry
   pub stamped : entry.stamp ≡ stamp
   pub given : Contains (map answer_of entry.answers) answer

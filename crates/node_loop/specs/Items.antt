@@ -21,7 +21,7 @@ use Rattle.node_loop.specs.Owing.{with_note}
 use Rattle.node_loop.specs.Desks.{left_by}
 use Rattle.node_loop.specs.Held.{Looping, is_due, is_free_to_leave, can_step}
 use Rattle.term.specs.declared.limits.TheConstants.{MOST_TURNS}
-use Rattle.node_loop.specs.Steps.{Cause, by_event, by_letter, desk_of, Makes, Outcome, Ends, Goes}
+use Rattle.node_loop.specs.Steps.{StepCause, by_event, by_letter, desk_of, Makes, Outcome, Ends, Goes}
 
 -- a letter is read, but by a node that has left
 abbrev pub Reads : ℕ → Stamped → Looping → Outcome → Looping → Type 0
@@ -64,7 +64,7 @@ abbrev pub leaver : List (Option Ticket) → Option Ticket
 leaver [] = None
 leaver (t ∷ ts) = t
 
-abbrev pub by_leave : Looping → Cause
+abbrev pub by_leave : Looping → StepCause
 by_leave a = by_event (leaver a.desk.leaves) Leave a
 
 -- readers are to be shown that the node has left

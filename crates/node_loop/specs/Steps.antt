@@ -2,17 +2,17 @@
 use Rattle.std.specs.Prelude.{ℕ, false, ◌≡◌, ◌<◌, ◌+◌, ◌-◌, ◌^◌, ◌⊎◌, max, Option, None, Result, Ok, Err, List, [], ◌∷◌, ◌++◌, length, MatchResult}
 use Rattle.std.specs.Option.{option_map}
 use Rattle.node_log.specs.declared.Answer.{Answer}
-use Rattle.node_events.specs.declared.events.Event.{Event as NodeEvent}
-use Rattle.node_events.specs.declared.events.Event.TheVariants.{FromPeer}
+use Rattle.node_events.specs.declared.events.NodeEvent.{NodeEvent}
+use Rattle.node_events.specs.declared.events.NodeEvent.TheVariants.{FromPeer}
 use Rattle.node_log.specs.NodeEventsSeen.{fault_of, is_memory}
-use Rattle.node_log.specs.NodeCoreHeld.{Held}
+use Rattle.node_log.specs.NodeCoreHeld.{HeldCore}
 use Rattle.node_log.specs.NodeCoreMade.{Made as Turn}
 use Rattle.node_log.specs.NodeCoreSteps.{Steps, IsAsBefore, refusal_of}
 use Rattle.node_log.specs.declared.Event.{Event}
 use Rattle.node_log.specs.declared.WorldEvent.{WorldEvent}
 use Rattle.node_log.specs.declared.WorldEvent.TheVariants.{At, Deliver}
 use Rattle.node_log.specs.Events.{node_event}
-use Rattle.node_log.specs.Entries.{Entry}
+use Rattle.node_log.specs.Entries.{LogEntry}
 use Rattle.node_log.specs.Logs.{answered}
 use Rattle.node_loop.specs.declared.item.Stamped.{Stamped}
 use Rattle.node_loop.specs.declared.item.Ticket.{Ticket}
@@ -31,7 +31,7 @@ use Rattle.node_loop.specs.Owing.{with_note, KeepsOwing}
 
 -- What a step is made for: the event, as the core and the log have it, whose it is, how it is answered, and the stamp of
 -- the letter that is read, or 0
-pub record Cause : Type 0 where
+pub record StepCause : Type 0 where
   pub event : NodeEvent
   pub logged : WorldEvent
   pub own : Option Ticket
@@ -39,7 +39,7 @@ pub record Cause : Type 0 where
   pub seen : ℕ
 
 -- an event of this node
-abbrev pub by_event : Option Ticket → Event → Looping → Cause
+abbrev pub by_event : Option Ticket → Event → Looping → StepCause
 by_event own e a = record {
   event = node_event e;
   logged = At a.core.name e;
@@ -49,7 +49,7 @@ by_event own e a = record {
 }
 
 -- a letter from another
-abbrev pub by_letter : ℕ → Stamped → Looping → Cause
+abbrev pub by_letter : ℕ → Stamped → Looping → StepCause
 by_letter from l a = record {
   event = FromPeer from l.letter;
   logged = Deliver from a.log.node;
@@ -59,10 +59,10 @@ by_letter from l a = record {
 }
 
 -- above the last step's and the letter's
-abbrev pub stamp_of : Cause → Looping → ℕ
+abbrev pub stamp_of : StepCause → Looping → ℕ
 stamp_of k a = max a.stamp k.seen + 1
 
-abbrev pub entry_of : Cause → Looping → List Answer → Entry
+abbrev pub entry_of : StepCause → Looping → List Answer → LogEntry
 entry_of k a answers = record {
   stamp = stamp_of k a;
   seat = option_map (λ t. t.seat) k.own;
@@ -71,18 +71,18 @@ entry_of k a answers = record {
 }
 
 -- the desk behind the step
-abbrev pub desk_of : Cause → Looping → Held → List Answer → Kept
+abbrev pub desk_of : StepCause → Looping → HeldCore → List Answer → Kept
 desk_of k a core answers = settled (stamp_of k a) k.course k.own core answers a.desk
 
 -- what a step changes of what the node shows is noted, and owed as the last of so many steps besides what was owed
-pub record IsNoted (k : Cause) (a b : Looping) : Type 0 where
+pub record IsNoted (k : StepCause) (a b : Looping) : Type 0 where
   pub note : Note
   pub noted : Notes k.event note a.core
   pub owed : b.owed ≡ with_note note (length b.log.entries) a.owed
 
 -- The core's step is made: its entry is last in the log, its letters are last in the tray, its answers are told, and what it changes is owed
 -- to readers. Its stamp is one that there is
-pub record Makes (k : Cause) (a b : Looping) : Type 0 where
+pub record Makes (k : StepCause) (a b : Looping) : Type 0 where
   pub fits : stamp_of k a < 2 ^ 64
   pub turn : Turn
   pub step : Steps k.event a.core b.core turn
@@ -104,7 +104,7 @@ pub record Rests (a b : Looping) : Type 0 where
 
 -- The core's step is made and stands in the log, and what it changes is owed to readers. The first of its letters, if not all, are last
 -- in the tray, and the first of those are told who are to be
-pub record Begun (k : Cause) (due : Held → List Answer → Kept) (a b : Looping) : Type 0 where
+pub record Begun (k : StepCause) (due : HeldCore → List Answer → Kept) (a b : Looping) : Type 0 where
   pub turn : Turn
   pub step : Steps k.event a.core b.core turn
   pub log : b.log ≡ record a.log { entries = a.log.entries ++ entry_of k a turn.answers ∷ [] }
@@ -114,12 +114,12 @@ pub record Begun (k : Cause) (due : Held → List Answer → Kept) (a b : Loopin
   pub owing : KeepsOwing a b
 
 -- no stamp is left for a step: that would be above the greatest `u64`
-abbrev pub IsSpent : Cause → Looping → Type 0
+abbrev pub IsSpent : StepCause → Looping → Type 0
 IsSpent k a = max a.stamp k.seen ≡ 2 ^ 64 - 1
 
 -- The thread ends within a step. Where no stamp is left for it nothing changed. Where one is, memory was refused, before the step was
 -- made or behind that
-abbrev pub Ends : TurnFault → Cause → (Held → List Answer → Kept) → Looping → Looping → Type 0
+abbrev pub Ends : TurnFault → StepCause → (HeldCore → List Answer → Kept) → Looping → Looping → Type 0
 Ends StampsSpent k due a b = IsSpent k a × (b ≡ a)
 Ends Memory k due a b = (IsSpent k a → ⊥) × (Rests a b ⊎ Begun k due a b)
 
@@ -128,7 +128,7 @@ abbrev pub Outcome : Type 0
 Outcome = Result (Unit {0}) TurnFault
 
 -- a step is made, or the thread ends within it
-abbrev pub Goes : Cause → Looping → Outcome → Looping → Type 0
+abbrev pub Goes : StepCause → Looping → Outcome → Looping → Type 0
 Goes k a (Ok _) b = Makes k a b
 Goes k a (Err why) b = Ends why k (desk_of k a) a b
 

@@ -6,7 +6,7 @@ use Rattle.node_log.specs.declared.Call.{Call as ClientCall}
 use Rattle.node_log.specs.declared.Call.TheVariants.{Spawn, Whereis, RegisteredNames, Notices, Register, ReRegister, Unregister, SetLock, DelLock, Join}
 use Rattle.node_log.specs.declared.Event.{Event}
 use Rattle.node_log.specs.declared.Event.TheVariants.{Call, Retry, Exit, Leave}
-use Rattle.node_log.specs.NodeCoreHeld.{Held}
+use Rattle.node_log.specs.NodeCoreHeld.{HeldCore}
 use Rattle.node_log.specs.NodeCoreSeen.{node_of}
 use Rattle.node_loop.specs.declared.item.Ticket.{Ticket}
 use Rattle.node_loop.specs.declared.waiting.Caller.{Caller}
@@ -51,10 +51,10 @@ abbrev pub without : ℕ → List Caller → List Caller
 without k = filter (λ c. not (c.number == k))
 
 -- the process has no lock call at the node
-abbrev pub has_none : Held → Option Process → Bool
+abbrev pub has_none : HeldCore → Option Process → Bool
 has_none h None = false
 has_none h (Some p) = is_none (call_of p (node_of h).calls)
 
 -- a lock call that its node has dropped, as its process is dead
-abbrev pub is_dropped : Held → Caller → Bool
+abbrev pub is_dropped : HeldCore → Caller → Bool
 is_dropped h c = has_none h c.holder

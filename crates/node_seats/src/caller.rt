@@ -16,7 +16,7 @@ use crate::fault::SeatFault;
 use crate::hub::Hub;
 use crate::line::Line;
 use crate::place::Place;
-use crate::standing::Standing;
+use crate::standing::Bulletin;
 use crate::told::NodeStatus;
 use shared_table::{Call, Effect, Event, Item, Lookup, TableReader, Task, TaskFault, Ticket};
 use std::alloc::{AllocError, Global};
@@ -36,7 +36,7 @@ pub struct Caller {
     /// The number of its next event: how many it has asked for.
     next: u64,
     hub: Arc<Hub, Global>,
-    standing: Arc<Standing, Global>,
+    standing: Arc<Bulletin, Global>,
     /// It was told of a length only behind which the node had shown its table.
     reader: TableReader,
     rest: Rest,
@@ -72,7 +72,7 @@ impl Caller {
     /// One that asks the node of this address, which stands so, and finds its replies in the slot of this place.
     pub(crate) fn new(
         hub: &Arc<Hub, Global>,
-        standing: &Arc<Standing, Global>,
+        standing: &Arc<Bulletin, Global>,
         address: &mut Address<Item>,
         place: Place,
         yields: u32,

@@ -10,7 +10,7 @@ ghost use Rattle.node_seats.specs.Stops.{is_alone, ends_alone};
 use crate::bell::Rest;
 use crate::hub::Hub;
 use crate::laid::Laid;
-use crate::standing::Standing;
+use crate::standing::Bulletin;
 use name_table::Names;
 use shared_table::{NodeEnd, NodeLoop, Publisher, Record};
 use std::alloc::Global;
@@ -44,7 +44,7 @@ impl Stop {
 #[derive(Drop)]
 pub struct Host {
     hub: Arc<Hub, Global>,
-    standing: Arc<Standing, Global>,
+    standing: Arc<Bulletin, Global>,
     rest: Rest,
 }
 
@@ -58,7 +58,7 @@ impl Model for Host {
 
 impl Host {
     /// The host of a node that stands so, whose thread rests so.
-    pub(crate) fn new(hub: Arc<Hub, Global>, standing: Arc<Standing, Global>, rest: Rest) -> Self
+    pub(crate) fn new(hub: Arc<Hub, Global>, standing: Arc<Bulletin, Global>, rest: Rest) -> Self
         ensures { result ≡ rest.yields }
     {
         Host {

@@ -11,7 +11,7 @@ use crate::host::Host;
 use crate::hub::Hub;
 use crate::parcel::Parcel;
 use crate::place::Place;
-use crate::standing::Standing;
+use crate::standing::Bulletin;
 use link::Mailbox;
 use shared_table::{Item, ReaderFactory};
 use std::alloc::{AllocError, Global};
@@ -52,7 +52,7 @@ pub fn open_node(
     ensures host { IfOk result (λ opened. opened.host ≡ yields) }
 {
     // What is large comes last: the check follows each way out with all that was made before it.
-    let standing = Arc::new(alloc, Standing::new(node.copy(), readers))?;
+    let standing = Arc::new(alloc, Bulletin::new(node.copy(), readers))?;
     let own = Arc::try_clone(hub)?;
     let Entrance {
         mut address,

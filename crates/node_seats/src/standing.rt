@@ -21,7 +21,7 @@ struct Departure {
 
 /// What the thread of a node has told of itself, and by what its table is read.
 #[derive(Drop)]
-pub(crate) struct Standing {
+pub(crate) struct Bulletin {
     node: Node,
     readers: ReaderFactory,
     left: OnceLock<Departure>,
@@ -30,12 +30,12 @@ pub(crate) struct Standing {
     told: CachePadded<Told>,
 }
 
-impl Standing {
+impl Bulletin {
     /// That of this node, which is yet to start, and whose table is read by these.
     pub(crate) fn new(node: Node, readers: ReaderFactory) -> Self
         ensures { result.node ≡ node }
     {
-        Standing {
+        Bulletin {
             node,
             readers,
             left: OnceLock::new(),

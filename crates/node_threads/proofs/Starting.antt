@@ -2,7 +2,7 @@
 use Rattle.std.proofs.Common.{ℕ, ◌≡◌, Bool, true, false, List, [], ◌∷◌, refl, le_refl, ap, sym, subst, ◌∙◌}
 use Rattle.std.specs.Prelude.{if◌then◌else◌}
 use Rattle.term.specs.NodeSets.{set_of}
-use Rattle.node_loop.specs.NodeCoreHeld.{Held, fresh}
+use Rattle.node_loop.specs.NodeCoreHeld.{HeldCore, fresh}
 use Rattle.node_loop.specs.Openings.{opening_core}
 use Rattle.node_loop.specs.Coming.{begun}
 use Rattle.node_seats.specs.Publishing.{Progress}
@@ -27,7 +27,7 @@ use Rattle.node_threads.proofs.Dealing.{deals_nothing}
 use Rattle.node_threads.proofs.Stopping.{named}
 
 -- nothing is owed to the readers of a node that took no step
-pub publishes_first : (nodes cluster : List ℕ) (a : Looping) (p : Progress) (name stamp : ℕ) (core : Held) → a ≡ begun stamp core
+pub publishes_first : (nodes cluster : List ℕ) (a : Looping) (p : Progress) (name stamp : ℕ) (core : HeldCore) → a ≡ begun stamp core
     → core ≡ opening_core nodes cluster name → core.name ≡ name → p ≡ record { node = name; editions = []; waiting = []; length = 0 }
     → Publishes a p
 publishes_first nodes cluster a p name stamp core is opens named first =
@@ -36,7 +36,7 @@ publishes_first nodes cluster a p name stamp core is opens named first =
       record {
         world = refl;
         length = le_refl 0;
-        leads = λ j. record { node = sym named j; table = sym (ap (λ (h : Held). h.table) opens ∙ empty (set_of cluster name)) j; length = 0; left = false };
+        leads = λ j. record { node = sym named j; table = sym (ap (λ (h : HeldCore). h.table) opens ∙ empty (set_of cluster name)) j; length = 0; left = false };
       },
     ))
   where

@@ -6,37 +6,37 @@ use std::marker::{Model, PhantomData};
 
 /// Pairs of what has been, the oldest first: a clause reads them as `items`. It takes no memory, and its methods do nothing at run time.
 #[derive(Drop)]
-pub struct Log<A, B> {
+pub struct GhostLog<A, B> {
     of: PhantomData<(A, B)>,
     pub ghost items: { List (A × B) },
 }
 
-impl<A, B> Model for Log<A, B> {
+impl<A, B> Model for GhostLog<A, B> {
     ghost also_owns = { λ _. ftrue };
 }
 
 // It owns nothing.
-unsafe impl<A: Send, B: Send> Send for Log<A, B> {}
+unsafe impl<A: Send, B: Send> Send for GhostLog<A, B> {}
 
-impl<A, B> Log<A, B> {
+impl<A, B> GhostLog<A, B> {
     /// Nothing has been.
-    pub fn new() -> Log<A, B>
+    pub fn new() -> GhostLog<A, B>
         ensures { result.items ≡ [] }
     {
-        Log { of: PhantomData }
+        GhostLog { of: PhantomData }
     }
 
     /// What has been, and these two behind it.
-    pub fn and(&self, first: &A, second: &B) -> Log<A, B>
+    pub fn and(&self, first: &A, second: &B) -> GhostLog<A, B>
         ensures { result.items ≡ self.now.items ++ (first.now, second.now) ∷ [] }
     {
-        Log { of: PhantomData }
+        GhostLog { of: PhantomData }
     }
 
     /// The same once more.
-    pub fn again(&self) -> Log<A, B>
+    pub fn again(&self) -> GhostLog<A, B>
         ensures { result.items ≡ self.now.items }
     {
-        Log { of: PhantomData }
+        GhostLog { of: PhantomData }
     }
 }

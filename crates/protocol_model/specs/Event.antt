@@ -46,16 +46,16 @@ pub data Refusal : Type 0 where
   CallsSpent : Refusal
 
 -- a refusal, and whether there is cause for it
-pub record Cause : Type 0 where
+pub record RefusalCause : Type 0 where
   pub stands : Bool
   pub refusal : Refusal
 
 -- the refusal, where this is so
-abbrev pub cause : Bool → Refusal → Cause
+abbrev pub cause : Bool → Refusal → RefusalCause
 cause so refusal = record { stands = so; refusal = refusal }
 
 -- the first refusal that has cause
-abbrev pub first_cause : List Cause → Option Refusal
+abbrev pub first_cause : List RefusalCause → Option Refusal
 first_cause [] = None
 first_cause (c ∷ cs) = if c.stands then Some c.refusal else first_cause cs
 
@@ -96,7 +96,7 @@ abbrev pub has_joined : Node → Bool
 has_joined v = v.replica.joined || is_joining v.current || list_any is_join v.queue
 
 -- there is no further number for a call
-abbrev pub calls_spent : Node → Cause
+abbrev pub calls_spent : Node → RefusalCause
 calls_spent v = cause (v.last_call == last_u32) CallsSpent
 
 -- each name has a member
@@ -105,18 +105,18 @@ names_members v (Named names) = list_all (λ nodes. list_any v.replica.members n
 names_members v _ = true
 
 -- why a lock call of p on this resource is refused first, in order
-abbrev pub lock_causes : ℕ → Node → Process → Text → List Cause
+abbrev pub lock_causes : ℕ → Node → Process → Text → List RefusalCause
 lock_causes a v p resource =
     cause (not (is_live a v.watch p)) (NotLive p) ∷ cause (is_some (call_of p v.calls)) (Busy p)
     ∷ cause (resource == global_resource) Reserved ∷ []
 
 -- why node a refuses a look-up: the notices of a process that was not issued there
-abbrev pub look_causes : ℕ → Node → Look → List Cause
+abbrev pub look_causes : ℕ → Node → Look → List RefusalCause
 look_causes a v (NoticesOf p) = cause (not (is_issued a v.watch p)) NoSuchProcess ∷ []
 look_causes a v _ = []
 
 -- why node a refuses a call, in order
-abbrev pub call_causes : ℕ → Node → Call → List Cause
+abbrev pub call_causes : ℕ → Node → Call → List RefusalCause
 call_causes a v Spawn = cause (nat_lt last_u32 (next_serial v.watch)) SerialsSpent ∷ []
 call_causes a v (LookUp look) = look_causes a v look
 call_causes a v (OnName call) = calls_spent v ∷ []
@@ -126,7 +126,7 @@ call_causes a v (DelLock p r q target) = lock_causes a v p r ++ calls_spent v �
 call_causes a v (JoinBy contact) = cause (has_joined v) AlreadyJoined ∷ calls_spent v ∷ []
 
 -- why node a refuses an event, in order
-abbrev pub causes : ℕ → Node → Event → List Cause
+abbrev pub causes : ℕ → Node → Event → List RefusalCause
 causes a v (Calling call) = call_causes a v call
 causes a v Retry = cause (not (can_retry v)) NothingToRetry ∷ []
 causes a v (Exiting p) =

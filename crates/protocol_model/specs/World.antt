@@ -5,7 +5,7 @@ use Rattle.registry_model.specs.History.{Entry}
 use Rattle.protocol_model.specs.Letter.{Letter}
 use Rattle.protocol_model.specs.Links.{Links, no_letters, is_nil, posted, taken, closed_out}
 use Rattle.protocol_model.specs.Node.{Node, Current, opening_node, holds_global}
-use Rattle.protocol_model.specs.Event.{Call, Event, Answer, Refusal, NoSuchNode, NodeLeft, EmptyLink, Cause, cause, first_cause, causes}
+use Rattle.protocol_model.specs.Event.{Call, Event, Answer, Refusal, NoSuchNode, NodeLeft, EmptyLink, RefusalCause, cause, first_cause, causes}
 use Rattle.protocol_model.specs.Turn.{Turn, begun, sent_to}
 use Rattle.protocol_model.specs.Calling.{event}
 use Rattle.protocol_model.specs.Reading.{receive}
@@ -54,7 +54,7 @@ other (At a e) = a
 other (Deliver f t) = f
 
 -- why the node or the link refuses an event, in order
-abbrev pub local_causes : World → WorldEvent → List Cause
+abbrev pub local_causes : World → WorldEvent → List RefusalCause
 local_causes w (At a e) = causes a (w.node a) e
 local_causes w (Deliver f t) = cause (is_nil (w.links.queue f t)) EmptyLink ∷ []
 

@@ -8,19 +8,19 @@ use Rattle.node_threads.specs.Wires.{Wired, name_of, inboxes, inbox_to, IsCrew}
 use Rattle.node_threads.specs.Faults.{IsSeatRefused}
 use Rattle.node_threads.specs.Seating.{are_spent, next_place}
 use Rattle.node_threads.specs.Clusters.{Crewed, next_seats, seats_more}
-use Rattle.server.specs.Attending.{Place, Reaches}
+use Rattle.server.specs.Attending.{SeatOffer, Reaches}
 use Rattle.server.specs.declared.served.Start.{Start}
 use Rattle.server.specs.Served.{Seats, SeatsAll}
 use Rattle.server.specs.Taking.{ReachesAll, Takes}
 
 -- a seat that a cluster gave out, or didn't
-pub seats_by : (c d : Crewed) (p : Place) → IfOk p (λ free. free ≡ next_seats c) → OnOk p (d ≡ seats_more c)
+pub seats_by : (c d : Crewed) (p : SeatOffer) → IfOk p (λ free. free ≡ next_seats c) → OnOk p (d ≡ seats_more c)
     → OnErr p (d ≡ c) → IfErr p (λ fault. IsSeatRefused fault true (are_spent c.seating)) → Seats c p d
 seats_by c d (Ok free) ok made unmade refused = (ok, made)
 seats_by c d (Err fault) ok made unmade refused = (unmade, refused)
 
 -- a seat changes nothing of its cluster but how many were made
-seat_keeps : (c d : Crewed) (p : Place) → Seats c p d → d ≡ record c { seating = d.seating }
+seat_keeps : (c d : Crewed) (p : SeatOffer) → Seats c p d → d ≡ record c { seating = d.seating }
 seat_keeps c d (Ok free) s = s.1 ∙ (λ j. record c { seating = (sym s.1 j).seating })
 seat_keeps c d (Err fault) s = s.0 ∙ (λ j. record c { seating = (sym s.0 j).seating })
 
@@ -76,7 +76,7 @@ some_mapped f None = refl
 some_mapped f (Some a) = refl
 
 -- the next seat of a cluster can be at each of its nodes
-pub seat_reaches : (nodes : List ℕ) (c d : Crewed) (p : Place) → Seats c p d → ReachesAll nodes c → Reaches nodes p
+pub seat_reaches : (nodes : List ℕ) (c d : Crewed) (p : SeatOffer) → Seats c p d → ReachesAll nodes c → Reaches nodes p
 seat_reaches nodes c d (Ok free) s reaches = λ n known.
     ap (λ (f : List Sitting). is_some (first_at n f)) s.0
     ∙ ap is_some (find_mapped (new_seat (next_place c.seating) c.world) (λ x. x.node == n) (inboxes c.crew))

@@ -7,7 +7,7 @@ use Rattle.console.specs.Consoles.{Serves, Stops}
 use Rattle.console.specs.Seats.{SeatAnswers, SeatStands, IsTranscript}
 use Rattle.term.specs.declared.limits.TheConstants.{MOST_LINES}
 use Rattle.text_lines.specs.declared.faults.StreamFault.{StreamFault}
-use Rattle.server.specs.Attending.{Place, Talks, IsSeated, IsUnseated, Attends, Sits}
+use Rattle.server.specs.Attending.{SeatOffer, Talks, IsSeated, IsUnseated, Attends, Sits}
 use Rattle.server.specs.declared.served.Start.{Start}
 use Rattle.server.specs.declared.served.Left.{Left}
 use Rattle.server.specs.declared.served.Left.TheVariants.{Served, Unserved}
@@ -29,7 +29,7 @@ module _ (input rest old new : Option (List ℕ)) (s : Sitting) (x : Transcript)
 
 -- what is left of a console that was attended is what one leaves behind that began so
 module _ (s : Start) (input rest old new : Option (List ℕ)) where
-  unserved : (node : ℕ) (unread written : Option (List ℕ)) (place back : Place) → Sits node unread rest written new place (Unserved back)
+  unserved : (node : ℕ) (unread written : Option (List ℕ)) (place back : SeatOffer) → Sits node unread rest written new place (Unserved back)
       → back ≡ place
   unserved node unread written (Ok free) back sits = absurd sits
   unserved node unread written (Err fault) back sits = sits.0
@@ -40,12 +40,12 @@ module _ (s : Start) (input rest old new : Option (List ℕ)) where
   leaves (Unserved back) (inr a) = cc a.back
 
 -- a console that was attached, by what is known of its place
-module _ (node : ℕ) (input rest old new : Option (List ℕ)) (p : Place) where
+module _ (node : ℕ) (input rest old new : Option (List ℕ)) (p : SeatOffer) where
   pub sits_served : (free : List Sitting) (x : Transcript) → p ≡ Ok free → IsSeated node input rest old new free x
       → Sits node input rest old new p (Served x)
-  sits_served free x is seated = subst (λ (q : Place). Sits node input rest old new q (Served x)) (sym is) seated
+  sits_served free x is seated = subst (λ (q : SeatOffer). Sits node input rest old new q (Served x)) (sym is) seated
 
   pub sits_unserved : (fault : SeatFault) → p ≡ Err fault → IsUnseated input rest old new fault
       → Sits node input rest old new p (Unserved (Err fault))
   sits_unserved fault is unseated =
-      subst (λ (q : Place). Sits node input rest old new q (Unserved (Err fault))) (sym is) (refl, unseated)
+      subst (λ (q : SeatOffer). Sits node input rest old new q (Unserved (Err fault))) (sym is) (refl, unseated)

@@ -16,11 +16,11 @@ use Rattle.server.specs.declared.served.Left.{Left}
 use Rattle.server.specs.declared.served.Left.TheVariants.{Served, Unserved}
 
 -- the seat that a console has, by those that it may become, or why it has none
-abbrev pub Place : Type 0
-Place = Result (List Sitting) SeatFault
+abbrev pub SeatOffer : Type 0
+SeatOffer = Result (List Sitting) SeatFault
 
 -- the seat can be at each of these nodes
-abbrev pub Reaches : List ℕ → Place → Type 0
+abbrev pub Reaches : List ℕ → SeatOffer → Type 0
 Reaches nodes place = IfOk place (λ free. (n : ℕ) → set_of nodes n ≡ true → is_some (first_at n free) ≡ true)
 
 -- the console read its lines and wrote their answers so, until it ended well or with a fault
@@ -42,13 +42,13 @@ pub record IsUnseated (input rest old new : Option (List ℕ)) (fault : SeatFaul
   pub wrote : AppendsPart old new (error_line (seat_word fault))
 
 -- it was attached to this node, and this is left of it: a console that has a seat is served there
-abbrev pub Sits : ℕ → Option (List ℕ) → Option (List ℕ) → Option (List ℕ) → Option (List ℕ) → Place → Left → Type 0
+abbrev pub Sits : ℕ → Option (List ℕ) → Option (List ℕ) → Option (List ℕ) → Option (List ℕ) → SeatOffer → Left → Type 0
 Sits node input rest old new (Ok free) (Served transcript) = IsSeated node input rest old new free transcript
 Sits node input rest old new (Err fault) (Unserved place) = (place ≡ Err fault) × IsUnseated input rest old new fault
 Sits node input rest old new _ _ = ⊥
 
 -- it was greeted and attached to one of these nodes
-pub record IsAttached (nodes : List ℕ) (input rest old new : Option (List ℕ)) (place : Place) (left : Left) : Type 0 where
+pub record IsAttached (nodes : List ℕ) (input rest old new : Option (List ℕ)) (place : SeatOffer) (left : Left) : Type 0 where
   pub node : ℕ
   pub unread : Option (List ℕ)
   pub written : Option (List ℕ)
@@ -56,11 +56,11 @@ pub record IsAttached (nodes : List ℕ) (input rest old new : Option (List ℕ)
   pub sits : Sits node unread rest written new place left
 
 -- it was attached to none, and gave its seat back: its first line is refused, or it has none, or that line wasn't read or answered
-pub record IsUnattached (nodes : List ℕ) (input rest old new : Option (List ℕ)) (place : Place) (left : Left) : Type 0 where
+pub record IsUnattached (nodes : List ℕ) (input rest old new : Option (List ℕ)) (place : SeatOffer) (left : Left) : Type 0 where
   pub back : left ≡ Unserved place
   pub greeted : Greets None nodes input rest old new None ⊎ ((f : StreamFault) × GreetStops None nodes input rest old new f)
 
 -- a console of a cluster of these nodes ended that had this place, and this is left of it
-abbrev pub Attends : List ℕ → Option (List ℕ) → Option (List ℕ) → Option (List ℕ) → Option (List ℕ) → Place → Left → Type 0
+abbrev pub Attends : List ℕ → Option (List ℕ) → Option (List ℕ) → Option (List ℕ) → Option (List ℕ) → SeatOffer → Left → Type 0
 Attends nodes input rest old new place left =
     IsAttached nodes input rest old new place left ⊎ IsUnattached nodes input rest old new place left

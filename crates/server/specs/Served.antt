@@ -7,10 +7,10 @@ use Rattle.node_threads.specs.Clusters.{Crewed, next_seats, seats_more}
 use Rattle.server.specs.declared.served.Start.{Start}
 use Rattle.server.specs.declared.served.Left.{Left}
 use Rattle.server.specs.declared.served.Left.TheVariants as left
-use Rattle.server.specs.Attending.{Place, Attends}
+use Rattle.server.specs.Attending.{SeatOffer, Attends}
 
 -- some console of a cluster of these nodes got such a seat and left this transcript of it
-pub record IsAttended (nodes : List ℕ) (place : Place) (transcript : Transcript) : Type 0 where
+pub record IsAttended (nodes : List ℕ) (place : SeatOffer) (transcript : Transcript) : Type 0 where
   pub input : Option (List ℕ)
   pub rest : Option (List ℕ)
   pub old : Option (List ℕ)
@@ -35,7 +35,7 @@ transcripts_in (left.Served transcript ∷ ls) = transcript ∷ transcripts_in l
 transcripts_in (left.Unserved place ∷ ls) = transcripts_in ls
 
 -- a cluster gave out a seat, the next one, or it had none to give, for this cause
-abbrev pub Seats : Crewed → Place → Crewed → Type 0
+abbrev pub Seats : Crewed → SeatOffer → Crewed → Type 0
 Seats c (Ok free) d = (free ≡ next_seats c) × (d ≡ seats_more c)
 Seats c (Err fault) d = (d ≡ c) × IsSeatRefused fault true (are_spent c.seating)
 

@@ -5,7 +5,7 @@ ghost use Rattle.server.specs.Attending.{Attends, Reaches, Sits, Talks};
 ghost use Rattle.console.specs.Seats.{IsTranscript};
 ghost use Rattle.node_threads.specs.Seats.{Sitting, first_at};
 
-use crate::served::{Left, Place};
+use crate::served::{Left, SeatOffer};
 use console::{ConsoleFault, greet, refuse_seat, serve};
 use node_threads::{Seat, Transcript};
 use std::alloc::Global;
@@ -46,7 +46,7 @@ fn attend_at<H: Wait + Clock, R: Read, W: Write>(
     reader: &mut BufReader<R, Global>,
     writer: &mut W,
     node: &NodeName,
-    place: Place,
+    place: SeatOffer,
 ) -> Left
     requires { IfOk place (λ free. is_some (first_at node.now free) ≡ true) }
     ensures { Sits node.now (reader_remaining R.remaining reader.old) (reader_remaining R.remaining reader.new)
@@ -72,7 +72,7 @@ pub(crate) fn attend<H: Wait + Clock, R: Read, W: Write>(
     reader: &mut BufReader<R, Global>,
     writer: &mut W,
     nodes: &NodeSet,
-    place: Place,
+    place: SeatOffer,
 ) -> Left
     requires { Reaches nodes.now place }
     ensures { Attends nodes.now (reader_remaining R.remaining reader.old) (reader_remaining R.remaining reader.new)

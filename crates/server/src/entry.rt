@@ -7,22 +7,22 @@ use std::os::unix::net::UnixListener;
 
 /// Where consoles come in.
 #[derive(Debug, Drop)]
-pub enum Entry {
+pub enum ConsoleListener {
     /// An address of TCP.
     Tcp(TcpListener),
     /// A socket of the file system.
     Unix(UnixListener),
 }
 
-impl Entry {
+impl ConsoleListener {
     /// Takes a connection.
     pub(crate) fn accept(&self) -> io::Result<Stream> {
         match self {
-            Entry::Tcp(listener) => {
+            ConsoleListener::Tcp(listener) => {
                 let (stream, _peer) = listener.accept()?;
                 Ok(Stream::Tcp(stream))
             }
-            Entry::Unix(listener) => {
+            ConsoleListener::Unix(listener) => {
                 let (stream, _peer) = listener.accept()?;
                 Ok(Stream::Unix(stream))
             }
@@ -32,16 +32,16 @@ impl Entry {
     /// Has `accept` fail where it would wait, rather than wait.
     pub(crate) fn take_at_once(&self) -> io::Result<()> {
         match self {
-            Entry::Tcp(listener) => listener.set_nonblocking(true),
-            Entry::Unix(listener) => listener.set_nonblocking(true),
+            ConsoleListener::Tcp(listener) => listener.set_nonblocking(true),
+            ConsoleListener::Unix(listener) => listener.set_nonblocking(true),
         }
     }
 
     /// Its number in the system.
     pub(crate) fn fd(&self) -> i32 {
         match self {
-            Entry::Tcp(listener) => listener.as_raw_fd(),
-            Entry::Unix(listener) => listener.as_raw_fd(),
+            ConsoleListener::Tcp(listener) => listener.as_raw_fd(),
+            ConsoleListener::Unix(listener) => listener.as_raw_fd(),
         }
     }
 }

@@ -11,7 +11,7 @@ mod staying;
 mod taking;
 
 pub use console::Cookie;
-pub use entry::Entry;
+pub use entry::ConsoleListener;
 pub use faults::{ServeFault, StayFault};
 pub use node_threads::{
     Call, Cluster, NodeStatus, Numbers, OpenGate, Reply, Seat, SeatFault, StartFault, StepFault,

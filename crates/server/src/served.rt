@@ -9,13 +9,13 @@ use std::thread::Promise;
 use term::NodeSet;
 
 /// The seat that a console has, or why it has none.
-pub(crate) type Place = Result<FreeSeat, SeatFault>;
+pub(crate) type SeatOffer = Result<FreeSeat, SeatFault>;
 
 /// What a console begins with: the nodes to which it may be attached, and its seat.
 #[derive(Drop)]
 pub(crate) struct Start {
     pub(crate) nodes: NodeSet,
-    pub(crate) place: Place,
+    pub(crate) place: SeatOffer,
 }
 
 /// What a console leaves behind.
@@ -24,7 +24,7 @@ pub(crate) enum Left {
     /// The transcript of its seat.
     Served(Transcript),
     /// Its seat, from which nothing was asked, or why it had none.
-    Unserved(Place),
+    Unserved(SeatOffer),
 }
 
 /// That a console left behind what one does that began so.

@@ -9,7 +9,7 @@ ghost use Rattle.server.specs.Serving.{Tells, Fails, ServesCluster};
 use crate::ending::ending_line;
 use crate::faults::{ServeFault, TakeFault};
 use crate::served::{Left, transcripts_of};
-use crate::taking::{Door, ServedCluster};
+use crate::taking::{ServedCluster, Taker};
 use node_threads::{Cluster, OpenGate, Transcript};
 use std::alloc::Global;
 use std::io::Write;
@@ -127,7 +127,7 @@ where
     let Ok(mut running) = Cluster::start(rt, alloc, cluster, lone, OpenGate, YIELDS, 0) else {
         return Err(ServeFault::Memory);
     };
-    let door = Door {
+    let door = Taker {
         rt: *rt,
         alloc,
         listener,

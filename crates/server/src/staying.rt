@@ -19,7 +19,7 @@ pub(crate) mod stream;
 mod worker;
 
 use crate::ending::end_line;
-use crate::entry::Entry;
+use crate::entry::ConsoleListener;
 use crate::faults::StayFault;
 use crate::serving::{YIELDS, set_of_all};
 use crate::staying::descriptors::shortage;
@@ -120,7 +120,7 @@ where
 pub fn run_stay<R, W, E>(
     rt: &R,
     alloc: Global,
-    entry: Entry,
+    entry: ConsoleListener,
     cluster: &[NodeName],
     lone: &[NodeName],
     options: StayOptions,

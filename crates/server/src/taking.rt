@@ -7,7 +7,7 @@ ghost use Rattle.server.specs.Taking.{starts_of, ReachesAll, Takes};
 
 use crate::attending::attend;
 use crate::faults::TakeFault;
-use crate::served::{Left, LeftBehind, Place, Start};
+use crate::served::{Left, LeftBehind, SeatOffer, Start};
 use name_table::IndexTable;
 use node_threads::{Cluster, OpenGate};
 use std::alloc::{AllocError, Global};
@@ -28,7 +28,7 @@ type ConsoleThread = PromisedHandle<Left, LeftBehind>;
 
 /// Where consoles are taken from, and to which nodes they may be attached.
 #[derive(Drop)]
-pub(crate) struct Door<R: Drop> {
+pub(crate) struct Taker<R: Drop> {
     pub(crate) rt: R,
     pub(crate) alloc: Global,
     pub(crate) listener: TcpListener,
@@ -84,7 +84,7 @@ where
     Ok(handle)
 }
 
-impl<R: Threads + Wait + Clock + Drop + Copy + Send + 'static> Door<R> {
+impl<R: Threads + Wait + Clock + Drop + Copy + Send + 'static> Taker<R> {
     /// Takes one console more, with a new seat of the cluster.
     fn take_one(
         &self,
@@ -136,7 +136,7 @@ impl<R: Threads + Wait + Clock + Drop + Copy + Send + 'static> Door<R> {
     {
         let mut threads = Vec::new(self.alloc);
         let taken = self.take_all(consoles, cluster, &mut threads);
-        let Door {
+        let Taker {
             rt,
             alloc,
             listener,

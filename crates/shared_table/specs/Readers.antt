@@ -5,7 +5,7 @@ use Rattle.registry_model.specs.Table.{get}
 use Rattle.left_right.specs.Sides.{view}
 use Rattle.left_right.specs.declared.reader.Reader.{Reader}
 use Rattle.node_loop.specs.declared.edit.Edition.{Edition}
-use Rattle.shared_table.specs.declared.reader.Entry.{Entry}
+use Rattle.shared_table.specs.declared.reader.Glance.{Glance}
 use Rattle.shared_table.specs.declared.reader.Lookup.{Lookup}
 use Rattle.shared_table.specs.declared.reader.Lookup.TheVariants.{Owner, Left, Behind, Stranger, Gone}
 use Rattle.shared_table.specs.Editions.{latest, IsShown}
@@ -24,7 +24,7 @@ abbrev pub last_read : ℕ → Seen → Edition
 last_read node s = latest node s.editions
 
 -- an entry finds the name x in this edition of the node's table, which the node has shown
-pub record IsFound (entry : Entry) (node : ℕ) (x : Text) (e : Edition) : Type 0 where
+pub record IsFound (entry : Glance) (node : ℕ) (x : Text) (e : Edition) : Type 0 where
   pub own : e.node ≡ node
   pub owner : entry.owner ≡ get x e.table
   pub length : entry.length ≡ e.length

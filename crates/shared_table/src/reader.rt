@@ -67,7 +67,7 @@ impl Model for TableReader {
 /// What one entry finds: whether the table is the node's own, who owns the name, how long the node's log was, and whether the node had
 /// left.
 #[derive(Drop)]
-struct Entry {
+struct Glance {
     own: bool,
     owner: Option<Pid>,
     length: u64,
@@ -75,7 +75,7 @@ struct Entry {
 }
 
 /// Enters, looks a name up, and leaves. It finds nothing where nothing is published any more.
-fn enter(node: &Node, reader: RuledReader, name: &Name) -> (RuledReader, Option<Entry>)
+fn enter(node: &Node, reader: RuledReader, name: &Name) -> (RuledReader, Option<Glance>)
     ensures later { IfSome result.1 (λ e. StartsWith (view result.0.place) (view reader.place)) }
     ensures found { IfSome result.1 (λ e. e.own ≡ true → IsFound e node.now name.now (latest node.now (view result.0.place))) }
     ensures another { IfSome result.1 (λ e. e.own ≡ false → AreAnothers node.now (view result.0.place)) }
@@ -86,7 +86,7 @@ fn enter(node: &Node, reader: RuledReader, name: &Name) -> (RuledReader, Option<
         Err(reader) => return (reader, None),
     };
     let shown = reading.get();
-    let entry = Entry {
+    let entry = Glance {
         own: shown.node == *node,
         owner: shown.table.owner(name),
         length: shown.length,

@@ -10,7 +10,7 @@ use Rattle.std.proofs.KnownBytes.{Consumes-trans, Consumes-nil, Consumes-kept}
 use Rattle.std.proofs.lemmas.Bool.{ne_eqb}
 use Rattle.std.proofs.lemmas.List.Elements.{All-append, All-cons, All-nil, All-head, All-tail}
 use Rattle.text_lines.specs.Lines.{HasLines, TakesByte, TakesPart, HasNoFeed, LosesLines, HasNoLine, line_of, count_for, count_of, count_of_all, spoken, is_blank, BeginsWithLines, GoesPast, GoesPastFor, LosesInto, LosesWithinLine, IsWithinLine, MayEndIn, StopsAtByte, StopsAtLine, TakesSome, TakesAtHand, IsPart}
-use Rattle.text_lines.specs.declared.lines.Part.{Part}
+use Rattle.text_lines.specs.declared.lines.PartialLine.{PartialLine}
 use Rattle.text_lines.specs.declared.faults.StreamFault.{StreamFault}
 use Rattle.text_lines.specs.declared.faults.StreamFault.TheVariants as fault
 use Rattle.text_lines.proofs.Parts.{length-line_of}
@@ -29,7 +29,7 @@ Consumes-more a b c bytes x r h t e = Consumes-trans a b c bytes (x ∷ []) h
     (subst (λ (o : Option ℕ). TakesByte b c o) e t)
 
 -- bytes of a line, and then those at hand of it
-reads : (a b c : Option (List ℕ)) (part more : Part) (e : Bool)
+reads : (a b c : Option (List ℕ)) (part more : PartialLine) (e : Bool)
     → (bytes : List ℕ) × IsPart bytes part × HasNoFeed bytes × Consumes a b bytes → TakesAtHand b c part more e
     → (bytes : List ℕ) × IsPart bytes more × HasNoFeed bytes × TakesSome a c e bytes
 reads a b c part more e r t = (
@@ -45,7 +45,7 @@ reads a b c part more e r t = (
     taken false s = Consumes-trans a b c r.0 t.0 r.3 s
 
 -- without a line feed
-pub reads-on : (a b c : Option (List ℕ)) (part more : Part) (e : Bool)
+pub reads-on : (a b c : Option (List ℕ)) (part more : PartialLine) (e : Bool)
     → (bytes : List ℕ) × IsPart bytes part × HasNoFeed bytes × Consumes a b bytes → TakesAtHand b c part more e
     → e ≡ false → (bytes : List ℕ) × IsPart bytes more × HasNoFeed bytes × Consumes a c bytes
 reads-on a b c part more e r t is =
@@ -53,7 +53,7 @@ reads-on a b c part more e r t is =
     (u.0, u.1, u.2, subst (λ (x : Bool). TakesSome a c x u.0) is u.3)
 
 -- with one
-pub reads-end : (a b c : Option (List ℕ)) (part more : Part) (e : Bool)
+pub reads-end : (a b c : Option (List ℕ)) (part more : PartialLine) (e : Bool)
     → (bytes : List ℕ) × IsPart bytes part × HasNoFeed bytes × Consumes a b bytes → TakesAtHand b c part more e
     → e ≡ true → (bytes : List ℕ) × IsPart bytes more × HasNoFeed bytes × TakesPart a c true bytes
 reads-end a b c part more e r t is =

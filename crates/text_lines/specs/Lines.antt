@@ -7,7 +7,7 @@ use Rattle.text_lines.specs.declared.faults.StreamFault.{StreamFault}
 use Rattle.text_lines.specs.declared.faults.StreamFault.TheVariants.{Read, Write, TooManyLines, Memory}
 use Rattle.text_lines.specs.declared.lines.Line.{Line}
 use Rattle.text_lines.specs.declared.lines.Line.TheVariants.{Text, TooLong}
-use Rattle.text_lines.specs.declared.lines.Part.{Part}
+use Rattle.text_lines.specs.declared.lines.PartialLine.{PartialLine}
 use Rattle.term.specs.declared.limits.TheConstants.{LONGEST_LINE, MOST_LINES}
 
 -- how many lines so many bytes count for: one, and one more for each time that those past a longest line are as many again
@@ -42,7 +42,7 @@ room_of (Text v) = v.items
 room_of TooLong = []
 
 -- what is kept of a line of which these bytes were read, and no end: as many as show how long it is
-pub record IsPart (bytes : List ℕ) (part : Part) : Type 0 where
+pub record IsPart (bytes : List ℕ) (part : PartialLine) : Type 0 where
   pub text : part.text.items ≡ take (LONGEST_LINE + 1) bytes
   pub len : part.len ≡ length bytes
   pub ends_in_return : part.ends_in_return ≡ (slice_index bytes (length bytes - 1) == 13)
@@ -52,7 +52,7 @@ abbrev pub longest_part : ℕ
 longest_part = (MOST_LINES + 1) * LONGEST_LINE + 1
 
 -- these bytes were read, too
-abbrev pub GrowsByBytes : List ℕ → Part → Part → Type 0
+abbrev pub GrowsByBytes : List ℕ → PartialLine → PartialLine → Type 0
 GrowsByBytes bytes old new = (before : List ℕ) → IsPart before old → IsPart (before ++ bytes) new
 
 -- the line of these bytes: before a line feed it loses one carriage return
@@ -107,7 +107,7 @@ TakesSome old new true bytes = Consumes old new (bytes ++ 10 ∷ [])
 TakesSome old new false bytes = Consumes old new bytes
 
 -- bytes of a line were read that were at hand, and its line feed if that was
-abbrev pub TakesAtHand : Option (List ℕ) → Option (List ℕ) → Part → Part → Bool → Type 0
+abbrev pub TakesAtHand : Option (List ℕ) → Option (List ℕ) → PartialLine → PartialLine → Bool → Type 0
 TakesAtHand old new part more is_ended =
     (bytes : List ℕ) × HasNoFeed bytes × GrowsByBytes bytes part more × TakesSome old new is_ended bytes
 

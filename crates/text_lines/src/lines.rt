@@ -37,7 +37,7 @@ impl Line {
 
 /// The bytes of a line as far as they were read.
 #[derive(Drop)]
-struct Part {
+struct PartialLine {
     /// The first bytes: one more than a line may have.
     text: Vec<u8>,
     /// How many bytes were read.
@@ -101,13 +101,13 @@ fn next_byte<R: Read, W: Write>(
     take_byte(reader)
 }
 
-impl Part {
+impl PartialLine {
     /// Nothing was read yet. What is read goes into `room`, which is emptied first.
     fn new(mut room: Vec<u8>) -> Self
         ensures { IsPart [] result }
     {
         room.clear();
-        Part {
+        PartialLine {
             text: room,
             len: 0,
             ends_in_return: false,
@@ -155,7 +155,7 @@ impl Part {
         ensures { (bytes : List ℕ) → IsPart bytes self → IsKept (line_of is_ended bytes) result }
     {
         let len = self.line_len(is_ended);
-        let Part { mut text, .. } = self;
+        let PartialLine { mut text, .. } = self;
         if len <= LONGEST_LINE {
             text.truncate(len);
             Line::Text(text)
@@ -168,7 +168,7 @@ impl Part {
 /// Takes what is at hand of a line, and its line feed where that is at hand: whether it is.
 fn take_at_hand<R: Read>(
     reader: &mut BufReader<R, Global>,
-    part: &mut Part,
+    part: &mut PartialLine,
 ) -> Result<bool, AllocError>
     requires { part.old.len ≤ longest_part + 1 }
     ensures { MatchResult result
@@ -188,7 +188,7 @@ fn take_at_hand<R: Read>(
 fn read_part<R: Read, W: Write>(
     reader: &mut BufReader<R, Global>,
     writer: &mut W,
-    part: &mut Part,
+    part: &mut PartialLine,
     most: u32,
 ) -> Result<bool, StreamFault>
     requires start { IsPart [] part.old }
@@ -228,7 +228,7 @@ pub fn read_line<R: Read, W: Write>(
         (StopsAtLine (reader_remaining R.remaining reader.old) (reader_remaining R.remaining reader.new) left.old) }
     ensures kept { Keeps (W.contents writer.old) (W.contents writer.new) }
 {
-    let mut part = Part::new(room);
+    let mut part = PartialLine::new(room);
     let is_ended = read_part(reader, writer, &mut part, *left)?;
     if !is_ended && part.len == 0 {
         return Ok(None);

@@ -11,7 +11,7 @@ pub(crate) const YIELDS: u32 = 100_000_000;
 
 /// A door that holds the threads of some nodes while it is shut, or of all where none is named.
 #[derive(Drop)]
-pub(crate) struct Door {
+pub(crate) struct Turnstile {
     nodes: NodeSet,
     is_shut: AtomicBool,
     /// How often a thread came to it while it was shut.
@@ -20,10 +20,10 @@ pub(crate) struct Door {
     late: AtomicBool,
 }
 
-impl Door {
+impl Turnstile {
     /// One for the threads of these nodes. It is shut where any are named.
     pub(crate) fn new(nodes: NodeSet) -> Self {
-        Door {
+        Turnstile {
             is_shut: AtomicBool::new(!nodes.is_empty()),
             nodes,
             comings: AtomicU32::new(0),
@@ -85,12 +85,12 @@ impl Door {
 /// The gate of a door.
 #[derive(Drop)]
 pub(crate) struct Latch {
-    door: Arc<Door, Global>,
+    door: Arc<Turnstile, Global>,
 }
 
 impl Latch {
     /// That of this door.
-    pub(crate) fn of(door: &Arc<Door, Global>) -> Option<Self> {
+    pub(crate) fn of(door: &Arc<Turnstile, Global>) -> Option<Self> {
         match Arc::try_clone(door) {
             Ok(door) => Some(Latch { door }),
             Err(_) => None,

@@ -2,7 +2,7 @@
 //! a proof grows with what may be dropped where a function ends, and all clusters that are closed are of one type.
 use crate::calls::is_refused;
 use crate::cast::Cast;
-use crate::doors::{Door, Latch};
+use crate::doors::{Latch, Turnstile};
 use crate::scenes::Scene;
 use crate::scenes::consoles::{LINES, TEXT, Talk};
 use crate::tables::Stubborn;
@@ -125,7 +125,7 @@ fn plays_at<R: Threads + Wait + Clock + Sync>(
     node: &NodeName,
     play: Play<'_>,
     cast: &Cast,
-    door: &Door,
+    door: &Turnstile,
     told: &mut Vec<Transcript>,
 ) -> bool {
     if let Scene::Console(talk) = play.scene {
@@ -159,7 +159,7 @@ fn closes<R>(
     node: &NodeName,
     play: Play<'_>,
     cast: &Cast,
-    door: &Door,
+    door: &Turnstile,
 ) -> bool
 where
     R: Threads + Wait + Clock + Drop + Copy + Send + Sync + 'static,
@@ -178,7 +178,13 @@ pub(crate) fn names_of(list: &str) -> NodeNames {
 }
 
 /// Plays a scene in a cluster of its own. Whether all was as it is to be.
-fn starts<R>(rt: &R, alloc: Global, play: Play<'_>, cast: &Cast, door: &Arc<Door, Global>) -> bool
+fn starts<R>(
+    rt: &R,
+    alloc: Global,
+    play: Play<'_>,
+    cast: &Cast,
+    door: &Arc<Turnstile, Global>,
+) -> bool
 where
     R: Threads + Wait + Clock + Drop + Copy + Send + Sync + 'static,
 {
@@ -207,7 +213,7 @@ where
         close,
     };
     let held = NodeSet::first_of(&names_of(scene.held()));
-    match (Cast::new(), Arc::new(alloc, Door::new(held))) {
+    match (Cast::new(), Arc::new(alloc, Turnstile::new(held))) {
         (Some(cast), Ok(door)) => starts(rt, alloc, play, &cast, &door),
         _ => false,
     }

@@ -1,6 +1,6 @@
 //! What is played at the seats of a cluster.
 use crate::cast::Cast;
-use crate::doors::Door;
+use crate::doors::Turnstile;
 use crate::plays::Small;
 use crate::scenes::consoles::Talk;
 use node_threads::Seat;
@@ -111,7 +111,7 @@ impl Scene {
         one: &mut Seat,
         two: &mut Seat,
         cast: &Cast,
-        door: &Door,
+        door: &Turnstile,
     ) -> bool {
         match self {
             Scene::Both => names::both(rt, one, two, cast),
@@ -131,7 +131,7 @@ impl Scene {
         cluster: &mut Small,
         seats: &mut [Seat],
         cast: &Cast,
-        door: &Door,
+        door: &Turnstile,
     ) -> bool {
         match self {
             Scene::Spend => seating::spend(alloc, cluster, cast),
@@ -154,7 +154,7 @@ impl Scene {
         cluster: &mut Small,
         seats: &mut [Seat],
         cast: &Cast,
-        door: &Door,
+        door: &Turnstile,
     ) -> bool {
         match seats {
             [seat] => self.plays_alone(rt, alloc, cluster, seat, cast),

@@ -7,7 +7,7 @@ use Rattle.registry_model.specs.Process.{Text, Process}
 use Rattle.registry_model.specs.History.{Entry}
 use Rattle.protocol_model.specs.Watch.{Watch, is_live, is_issued, is_dead}
 use Rattle.protocol_model.specs.Node.{Node, LockCall, Target, Retries, Times, call_of, targets}
-use Rattle.protocol_model.specs.Event.{Call, Event, Refusal, Cause, cause, first_cause, lock_causes, names_members, calls_spent, call_causes, causes, has_joined, global_resource}
+use Rattle.protocol_model.specs.Event.{Call, Event, Refusal, RefusalCause, cause, first_cause, lock_causes, names_members, calls_spent, call_causes, causes, has_joined, global_resource}
 use Rattle.protocol_model.specs.Round.{is_empty}
 use Rattle.protocol_model.specs.Turn.{Turn, begun, count_call, enter}
 use Rattle.protocol_model.specs.Registrar.{start, retry_global}
@@ -23,7 +23,7 @@ use Rattle.walk.proofs.Starting.{start-chain, retry_global-chain, retry_global-c
 use Rattle.walk.proofs.LockRounds.{IsOwn, retry_locks-chain}
 
 -- no refusal has cause: not the first, and none behind it
-pub no_cause : (b : Bool) (r : Refusal) (cs : List Cause) → first_cause (cause b r ∷ cs) ≡ None → (b ≡ false)
+pub no_cause : (b : Bool) (r : Refusal) (cs : List RefusalCause) → first_cause (cause b r ∷ cs) ≡ None → (b ≡ false)
     × (first_cause cs ≡ None)
 no_cause true r cs e = cc
 no_cause false r cs e = (refl, e)
@@ -60,12 +60,12 @@ none_of None e = refl
 none_of (Some y) e = cc
 
 -- a lock call's process is live, and has no other call
-pub lock_tested : (a : ℕ) (v : Node) (p : Process) (r : Text) (more : List Cause)
+pub lock_tested : (a : ℕ) (v : Node) (p : Process) (r : Text) (more : List RefusalCause)
     → first_cause (lock_causes a v p r ++ more) ≡ None
     → (is_live a v.watch p ≡ true) × (is_some (call_of p v.calls) ≡ false)
 lock_tested a v p r more h = (not_false (is_live a v.watch p) first.0, second.0)
   where
-    later : List Cause
+    later : List RefusalCause
     later = cause (r == global_resource) Refusal.Reserved ∷ more
 
     first : (not (is_live a v.watch p) ≡ false)

@@ -10,7 +10,7 @@ use crate::wire::Wire;
 use link::{Inbox, LinkFault, Post, Station, Unsent};
 use node_events::Letter;
 use node_loop::{Item, Stamped, Task};
-use past::Log as History;
+use past::GhostLog as History;
 use std::alloc::{AllocError, Global};
 use std::collections::{LinkedList, VecDeque};
 use std::marker::Model;

@@ -7,8 +7,8 @@ use Rattle.protocol_model.specs.NamedEvents.{NamedEvent}
 use Rattle.term.specs.Nodes.{text_in}
 use Rattle.term.specs.NodeSets.{with_older}
 use Rattle.node_core.specs.declared.Call.TheVariants.{Join as JoinBy}
-use Rattle.node_core.specs.declared.Event.{Event as NodeEvent}
-use Rattle.node_core.specs.declared.Event.TheVariants as at_node
+use Rattle.node_core.specs.declared.NodeEvent.{NodeEvent}
+use Rattle.node_core.specs.declared.NodeEvent.TheVariants as at_node
 use Rattle.node_core.specs.NodeEventsSeen.{call_of}
 use Rattle.world_events.specs.declared.events.Event.{Event}
 use Rattle.world_events.specs.declared.events.Event.TheVariants.{Call, Retry, Exit, Leave}

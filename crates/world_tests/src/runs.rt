@@ -1,7 +1,7 @@
 //! Runs of a node that is alone in its cluster, and what tears them. One function owns what a run left behind; what is logged, told and looked
 //! at borrows it, since a proof grows with what may be dropped where a function ends.
 use crate::names::first_name;
-use name_table::{Change, Entry, ListTable, Names, Pair};
+use name_table::{Change, ListTable, Names, Ownership, Pair};
 use node_log::{Notice, NoticeList};
 use replay::{
     Answer, Call, CloseFault, Closed, Event, Log, NodeEnd, Reply, SeatEntry, Transcript,
@@ -263,7 +263,7 @@ impl Told {
 
 /// Whether the name has its owner and its rule where a run ended, and the run a history.
 fn is_owned(closed: &Closed<Table>, pair: &Pair) -> bool {
-    let entry = Entry {
+    let entry = Ownership {
         owner: pair.owner.copy(),
         rule: pair.rule,
     };

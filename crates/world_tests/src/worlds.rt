@@ -5,7 +5,7 @@ use cluster_world::{
     Call, Event, HistoryEntry, Look, NameCall, Refusal, Reply, StartFault, StepFault, World,
     WorldEvent,
 };
-use command_lines::{Task, read_task};
+use command_lines::{Instruction, read_task};
 use name_table::{ListTable, Names, Pair};
 use std::alloc::{AllocError, Global};
 use term::{
@@ -71,10 +71,10 @@ fn settle(world: &mut Cluster) -> bool {
 }
 
 /// The event that a task asks for, if it asks for one, in a world of first nodes.
-fn event_in(task: Task) -> Option<WorldEvent> {
+fn event_in(task: Instruction) -> Option<WorldEvent> {
     match task {
-        Task::Play(event) => Some(event),
-        Task::At(name, event) => Some(WorldEvent::At(Node::first(name), event)),
+        Instruction::Play(event) => Some(event),
+        Instruction::At(name, event) => Some(WorldEvent::At(Node::first(name), event)),
         _ => None,
     }
 }

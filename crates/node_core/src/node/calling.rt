@@ -22,7 +22,7 @@ impl<N: Names<Memory = Global>> NodeCore<N> {
     ghost use Rattle.transaction.specs.Ops.{name_call_of};
     ghost use Rattle.transaction.specs.Calls.{target_of};
     ghost use Rattle.node_events.specs.declared.events.Call.TheVariants.{Spawn, SetLock as SetsLock, DelLock as DeletesLock};
-    ghost use Rattle.node_events.specs.declared.events.Event.TheVariants.{Call as Calls, Exit as Exits};
+    ghost use Rattle.node_events.specs.declared.events.NodeEvent.TheVariants.{Call as Calls, Exit as Exits};
     ghost use Rattle.node_events.specs.declared.events.StepFault.TheVariants.{Memory};
     ghost use Rattle.node_events.specs.Made.{Made, HasRoom, Spends, IsSameMade};
     ghost use Rattle.transaction.specs.Work.{begins_with_join};

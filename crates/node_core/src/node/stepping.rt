@@ -4,7 +4,7 @@ ghost use Rattle.std.specs.Prelude.{◌≡◌, ◌++◌, OnErr, IfOk, IfErr};
 use crate::cause::Cause;
 use crate::node::NodeCore;
 use name_table::Names;
-use node_events::{Answer, Event, Letter, StepFault, Turn};
+use node_events::{Answer, Letter, NodeEvent, StepFault, Turn};
 use std::alloc::Global;
 use term::Node;
 
@@ -18,7 +18,7 @@ impl<N: Names<Memory = Global>> NodeCore<N> {
     /// there: so a copy of the node takes the step. Worlds and loops call `refusal` and `accept`, which mostly need none.
     pub fn step(
         &mut self,
-        event: &Event,
+        event: &NodeEvent,
         letters: &mut Vec<(Node, Letter)>,
     ) -> Result<Vec<Answer>, StepFault>
         ensures name { self.new.name ≡ self.old.name }

@@ -1,7 +1,7 @@
 //! The thread that takes connections.
 ghost use Rattle.std.specs.Prelude.{◌≡◌, true, None};
 
-use crate::entry::Entry;
+use crate::entry::ConsoleListener;
 use crate::staying::hall::Guest;
 use crate::staying::notes::Note;
 use crate::staying::office::Office;
@@ -30,13 +30,13 @@ const SILENCE: u64 = 60;
 #[derive(Drop)]
 pub(crate) struct Door<R: Wait + Clock + Drop + Copy> {
     pub(crate) office: Office<R>,
-    pub(crate) entry: Entry,
+    pub(crate) entry: ConsoleListener,
     /// Where the workers take connections from.
     pub(crate) workers: Sender<Guest>,
 }
 
 /// Waits for a connection, for a while.
-fn wait_at<R: Clock>(rt: &R, entry: &Entry) {
+fn wait_at<R: Clock>(rt: &R, entry: &ConsoleListener) {
     let mut asked = [pollfd {
         fd: entry.fd(),
         events: POLLIN,

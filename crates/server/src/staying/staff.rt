@@ -3,7 +3,7 @@ ghost use denote.Param.Send.{IsSend, IsSync};
 ghost use Rattle.std.specs.Prelude.{◌≡◌, ◌+◌, ℕ, List, length, IfOk, OnOk};
 ghost use Rattle.server.specs.Staying.{Serve, Starts, workers_for};
 
-use crate::entry::Entry;
+use crate::entry::ConsoleListener;
 use crate::staying::desk::{Message, dismiss};
 use crate::staying::door::Door;
 use crate::staying::hall::{Guest, Hall};
@@ -122,7 +122,7 @@ where
 /// Starts so many workers, and the door. The workers that were started end where the door isn't.
 fn start_all<R>(
     office: Office<R>,
-    entry: Entry,
+    entry: ConsoleListener,
     guests: Sender<Guest>,
     workers: u32,
     threads: &mut Vec<DutyThread>,
@@ -154,7 +154,7 @@ impl Staff {
     pub(crate) fn start<R>(
         rt: &R,
         alloc: Global,
-        entry: Entry,
+        entry: ConsoleListener,
         nodes: NodeSet,
         options: StayOptions,
         memory: u64,

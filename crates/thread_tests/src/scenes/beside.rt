@@ -1,7 +1,7 @@
 //! Look-ups beside the nodes: what a seat reads of its node's table.
 use crate::calls::{finds, is_told, names_process, spawns};
 use crate::cast::{Cast, process_of};
-use crate::doors::Door;
+use crate::doors::Turnstile;
 use crate::plays::Small;
 use node_threads::{Call, Reply, Seat, SeatFault};
 use std::sync::Wait;
@@ -16,7 +16,7 @@ const TRIES: u32 = 1_000_000;
 /// A seat is answered while the thread of its node is held, which another waits for.
 fn answers_beside<R: Threads + Wait + Clock + Sync>(
     rt: &R,
-    door: &Door,
+    door: &Turnstile,
     one: &mut Seat,
     two: &mut Seat,
     name: &Name,
@@ -84,7 +84,7 @@ pub(super) fn play<R: Threads + Wait + Clock + Sync>(
     there: &mut Seat,
     lone: &mut Seat,
     cast: &Cast,
-    door: &Door,
+    door: &Turnstile,
 ) -> bool {
     let (ours, theirs) = (process_of(one, 1), process_of(there, 1));
     names_process(rt, one, &ours, &cast.x)

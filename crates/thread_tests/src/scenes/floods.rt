@@ -1,7 +1,7 @@
 //! More letters than an inbox has room for.
 use crate::calls::{finds, names_process, spawns};
 use crate::cast::{Cast, process_of};
-use crate::doors::Door;
+use crate::doors::Turnstile;
 use node_threads::Seat;
 use std::sync::Wait;
 use std::time::Clock;
@@ -32,7 +32,7 @@ pub(super) fn flood<R: Wait + Clock>(
     one: &mut Seat,
     held: &mut Seat,
     cast: &Cast,
-    door: &Door,
+    door: &Turnstile,
 ) -> bool {
     let process = process_of(one, EXITS + 1);
     // Its thread is held before anything is sent.

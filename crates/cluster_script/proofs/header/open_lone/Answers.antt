@@ -1,7 +1,7 @@
 use Rattle.std.proofs.Common.{ℕ, List, Option, None, Result, Vec, Global, subst, refl}
 use Rattle.std.specs.Prelude.{MatchResult, option_map}
 use Rattle.term.specs.declared.node_name.NodeName.{NodeName}
-use Rattle.cluster_world.specs.Held.{Held}
+use Rattle.cluster_world.specs.Held.{HeldWorld}
 use Rattle.command_lines.specs.declared.faults.LineFault.{LineFault}
 use Rattle.cluster_script.specs.Script.{made_of, lone_line}
 use Rattle.cluster_script.specs.Headers.{OpensLone, ReadsHeader, StartsBeside}
@@ -22,7 +22,7 @@ returns-in_default c = λ bytes k.
 pub returns-in-Ok : goal.returns-in-Ok
 returns-in-Ok c = λ bytes k.
     let cluster = c.args.cluster.nodes.items in
-    subst (λ (r : Result Held LineFault). MatchResult r (λ world. OpensLone cluster bytes (Open world None))
+    subst (λ (r : Result HeldWorld LineFault). MatchResult r (λ world. OpensLone cluster bytes (Open world None))
     (λ f. OpensLone cluster bytes (Refused f))) c.in-Ok.is
     (OpensLone-lone cluster bytes (made_of items c.in-Some.lone)
     (ReadsHeader-by items (lone_line bytes) c.read_lone.result c.in-Some.lone c.in-Some.is (c.read_lone.ensures bytes k))
@@ -33,7 +33,7 @@ returns-in-Ok c = λ bytes k.
 pub returns : goal.returns
 returns c = λ bytes k.
     let cluster = c.args.cluster.nodes.items in
-    subst (λ (r : Result Held LineFault). MatchResult r (λ world. OpensLone cluster bytes (Open world None))
+    subst (λ (r : Result HeldWorld LineFault). MatchResult r (λ world. OpensLone cluster bytes (Open world None))
     (λ f. OpensLone cluster bytes (Refused f))) c.in-Err.is
     (OpensLone-lone cluster bytes (made_of items c.in-Some.lone)
     (ReadsHeader-by items (lone_line bytes) c.read_lone.result c.in-Some.lone c.in-Some.is (c.read_lone.ensures bytes k))

@@ -3,7 +3,7 @@ use Rattle.std.proofs.lemmas.Result.{err_from_is_err_and}
 use Rattle.std.specs.Io.Buffered.{reader_remaining}
 use Rattle.command_lines.specs.declared.faults.LineFault.{LineFault}
 use Rattle.text_lines.specs.declared.faults.StreamFault.{StreamFault}
-use Rattle.command_lines.specs.declared.grammar.Task.{Task}
+use Rattle.command_lines.specs.declared.grammar.Instruction.{Instruction}
 use Rattle.cluster_script.specs.Headers.{asked_first}
 use Rattle.cluster_script.specs.Played.{PlaysBehind, PlaysLines, StopsPlaying}
 use Rattle.cluster_script.proofs.Scripts.{PlaysAll-err, PlaysSome-first, StopsPlaying-writing, StopsPlaying-behind, PlaysLines-behind}
@@ -11,7 +11,7 @@ use Rattle.cluster_script.proofs.script.play_all.Goals as goal
 
 pub returns-in_default : goal.returns-in_default
 returns-in_default g c =
-    subst (λ (o : Option (Result Task LineFault)). PlaysBehind (asked_first o)
+    subst (λ (o : Option (Result Instruction LineFault)). PlaysBehind (asked_first o)
     (reader_remaining g.R.Read.remaining c.args.reader.now) (reader_remaining g.R.Read.remaining c.play_lines.new.reader)
     c.args.left.now c.play_lines.new.left c.args.world.now c.play_lines.new.world
     (g.W.Write.contents c.args.writer.now) (g.W.Write.contents c.play_lines.new.writer) c.play_lines.result)
@@ -24,7 +24,7 @@ returns-in_err-is_fine g c =
     let new = g.W.Write.contents c.play_task.new.writer in
     let q = c.in_err-is_fine.ensures in
     let p = err_from_is_err_and c.from_residual.result c.from_residual.ensures.1 in
-    subst (λ (o : Option (Result Task LineFault)). PlaysBehind (asked_first o) input input c.args.left.now
+    subst (λ (o : Option (Result Instruction LineFault)). PlaysBehind (asked_first o) input input c.args.left.now
     c.args.left.now c.args.world.now c.play_task.new.world old new c.from_residual.result) (sym c.in-Some.is) (
       q.0 ∷ [],
       (q.1, tt),
@@ -43,7 +43,7 @@ returns-in_err-others g c =
     let new = g.W.Write.contents c.play_lines-2.new.writer in
     let q = c.in_ok-is_fine.ensures in
     let p = err_from_is_err_and c.from_residual-in_err-others.result c.from_residual-in_err-others.ensures.1 in
-    subst (λ (o : Option (Result Task LineFault)). PlaysBehind (asked_first o) input rest c.args.left.now
+    subst (λ (o : Option (Result Instruction LineFault)). PlaysBehind (asked_first o) input rest c.args.left.now
     c.play_lines-2.new.left c.args.world.now c.play_lines-2.new.world old new c.from_residual-in_err-others.result)
     (sym c.in-Some.is) (
       q.0 ∷ [],
@@ -64,7 +64,7 @@ returns g c =
     let mid = g.W.Write.contents c.play_task.new.writer in
     let new = g.W.Write.contents c.play_lines-2.new.writer in
     let q = c.in_ok-is_fine.ensures in
-    subst (λ (o : Option (Result Task LineFault)). PlaysBehind (asked_first o) input rest c.args.left.now
+    subst (λ (o : Option (Result Instruction LineFault)). PlaysBehind (asked_first o) input rest c.args.left.now
     c.play_lines-2.new.left c.args.world.now c.play_lines-2.new.world old new (Ok c.both.result)) (sym c.in-Some.is) (
       q.0 ∷ [],
       (q.1, tt),

@@ -2,7 +2,7 @@ use Rattle.std.proofs.Common.{◌≡◌, ℕ, List, ap, ◌∙◌, subst, refl, 
 use Rattle.std.specs.Io.KnownBytes.{Appends}
 use Rattle.std.proofs.lemmas.Result.{err_from_is_err_and}
 use Rattle.command_lines.specs.declared.faults.LineFault.{LineFault}
-use Rattle.command_lines.specs.declared.grammar.Task.{Task}
+use Rattle.command_lines.specs.declared.grammar.Instruction.{Instruction}
 use Rattle.command_lines.specs.Commands.{asked_by}
 use Rattle.command_lines.specs.Printing.{error_line}
 use Rattle.cluster_script.specs.Script.{Fails}
@@ -12,7 +12,7 @@ use Rattle.cluster_script.proofs.Playing.{text-fault, play-fault}
 use Rattle.cluster_script.proofs.script.play_task.Goals as goal
 
 -- a line that was refused when it was read
-refused : (task : Result Task LineFault) (f : LineFault) → task ≡ Err f → asked_by task ≡ Err f
+refused : (task : Result Instruction LineFault) (f : LineFault) → task ≡ Err f → asked_by task ≡ Err f
 refused task f e = rw e refl
 
 pub returns-in_err-write_refusal-in-Err : goal.returns-in_err-write_refusal-in-Err

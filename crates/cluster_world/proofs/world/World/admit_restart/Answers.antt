@@ -1,5 +1,5 @@
 use Rattle.std.proofs.Common.{ℕ, ◌≡◌, Some, get_or, sym, subst}
-use Rattle.cluster_world.specs.Held.{Held}
+use Rattle.cluster_world.specs.Held.{HeldWorld}
 use Rattle.cluster_world.specs.Mail.{links_of}
 use Rattle.cluster_world.specs.Restarting.{IsFirstUntold}
 use Rattle.cluster_world.specs.Whole.{IsWhole}
@@ -11,9 +11,9 @@ returns-then-not-has_left-clause-refused g c = refuses_running c.args.self.now (
     c.in-Some.ensures.left
     c.in-Some.ensures.place.0 c.args.name.now c.in-Some.place c.node-node.result.now c.in-Some.ensures.place.1
     c.in-Some.ensures.place.2
-    c.index.result.now (subst (λ (h : Held). c.index.result.now ≡ get_or h.cores c.in-Some.place c.index.result.now) c.self.view_is
+    c.index.result.now (subst (λ (h : HeldWorld). c.index.result.now ≡ get_or h.cores c.in-Some.place c.index.result.now) c.self.view_is
     c.index.ensures) c.node-node.ensures.name c.has_left.result
-    (subst (λ (h : Held). c.has_left.result ≡ (links_of h.links).closed c.node-node.result.now) c.self.view_is c.has_left.ensures)
+    (subst (λ (h : HeldWorld). c.has_left.result ≡ (links_of h.links).closed c.node-node.result.now) c.self.view_is c.has_left.ensures)
     c.if-not-has_left.true
 
 pub returns-in-Some-first_untold-clause-refused : goal.returns-in-Some-first_untold-clause-refused
@@ -21,10 +21,10 @@ returns-in-Some-first_untold-clause-refused g c = refuses_untold c.args.self.now
     c.in-Some.ensures.left
     c.in-Some.ensures.place.0 c.args.name.now c.in-Some.place c.node-node.result.now c.in-Some.ensures.place.1
     c.in-Some.ensures.place.2
-    c.index.result.now (subst (λ (h : Held). c.index.result.now ≡ get_or h.cores c.in-Some.place c.index.result.now) c.self.view_is
+    c.index.result.now (subst (λ (h : HeldWorld). c.index.result.now ≡ get_or h.cores c.in-Some.place c.index.result.now) c.self.view_is
     c.index.ensures) c.node-node.ensures.name c.has_left.result
     c.copy.result
-    (subst (λ (h : Held). c.has_left.result ≡ (links_of h.links).closed c.node-node.result.now) c.self.view_is c.has_left.ensures)
+    (subst (λ (h : HeldWorld). c.has_left.result ≡ (links_of h.links).closed c.node-node.result.now) c.self.view_is c.has_left.ensures)
     c.if-not-has_left.false
     (subst (λ (m : ℕ). IsFirstUntold c.node-node.result.now c.args.self.now (Some m)) (sym c.copy.ensures)
     c.in-Some-first_untold.ensures)
@@ -37,10 +37,10 @@ returns-in-Some-next-clause-ok g c = record {
   accepted = admits c.args.self.now (subst IsWhole c.self.view_is c.self.invariant) c.in-Some.ensures.left
       c.in-Some.ensures.place.0 c.args.name.now c.in-Some.place c.node-node.result.now c.in-Some.ensures.place.1
       c.in-Some.ensures.place.2
-      c.index.result.now (subst (λ (h : Held). c.index.result.now ≡ get_or h.cores c.in-Some.place c.index.result.now)
+      c.index.result.now (subst (λ (h : HeldWorld). c.index.result.now ≡ get_or h.cores c.in-Some.place c.index.result.now)
       c.self.view_is
       c.index.ensures) c.node-node.ensures.name c.has_left.result
-      (subst (λ (h : Held). c.has_left.result ≡ (links_of h.links).closed c.node-node.result.now) c.self.view_is c.has_left.ensures)
+      (subst (λ (h : HeldWorld). c.has_left.result ≡ (links_of h.links).closed c.node-node.result.now) c.self.view_is c.has_left.ensures)
       c.if-not-has_left.false c.in_default-first_untold.ensures c.in-Some-next.ensures.0;
 }
 
@@ -49,7 +49,7 @@ returns-in-None-clause-refused g c = refuses_spent c.args.self.now (subst IsWhol
     c.in-Some.ensures.left
     c.in-Some.ensures.place.0 c.args.name.now c.in-Some.place c.node-node.result.now c.in-Some.ensures.place.1
     c.in-Some.ensures.place.2
-    c.index.result.now (subst (λ (h : Held). c.index.result.now ≡ get_or h.cores c.in-Some.place c.index.result.now) c.self.view_is
+    c.index.result.now (subst (λ (h : HeldWorld). c.index.result.now ≡ get_or h.cores c.in-Some.place c.index.result.now) c.self.view_is
     c.index.ensures) c.node-node.ensures.name c.has_left.result
-    (subst (λ (h : Held). c.has_left.result ≡ (links_of h.links).closed c.node-node.result.now) c.self.view_is c.has_left.ensures)
+    (subst (λ (h : HeldWorld). c.has_left.result ≡ (links_of h.links).closed c.node-node.result.now) c.self.view_is c.has_left.ensures)
     c.if-not-has_left.false c.in_default-first_untold.ensures c.in-None.ensures

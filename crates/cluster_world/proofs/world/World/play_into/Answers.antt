@@ -1,8 +1,8 @@
 use Rattle.std.proofs.Common.{◌≤◌, ◌∙◌, ◌++◌, List, get_or, length, ap, sym, subst}
 use Rattle.node_core.specs.declared.Answer.{Answer}
-use Rattle.node_core.specs.Held.{Held as Core}
+use Rattle.node_core.specs.Held.{HeldCore}
 use Rattle.node_core.specs.Rare.{most_answers}
-use Rattle.cluster_world.specs.Held.{Held}
+use Rattle.cluster_world.specs.Held.{HeldWorld}
 use Rattle.cluster_world.specs.Playing.{Played}
 use Rattle.cluster_world.proofs.Running.{played_behind, appended, fits_behind}
 use Rattle.cluster_world.proofs.world.World.play_into.Goals as goal
@@ -21,7 +21,7 @@ returns-clause-ok g c =
     c.in_ok-given.given.items c.in_ok-given.ensures.ok)
   where
     few : length c.in_ok-given.given.items ≤ most_answers c.index.result.now
-    few = subst (λ (k : Core). length c.in_ok-given.given.items ≤ most_answers k)
-        (ap (λ (k : Held). get_or k.cores c.in_ok-taker.taker c.index.result.now) (sym c.self.view_is)
+    few = subst (λ (k : HeldCore). length c.in_ok-given.given.items ≤ most_answers k)
+        (ap (λ (k : HeldWorld). get_or k.cores c.in_ok-taker.taker c.index.result.now) (sym c.self.view_is)
         ∙ sym c.index.ensures)
         (c.in_ok-given.ensures.few c.index.result.now)

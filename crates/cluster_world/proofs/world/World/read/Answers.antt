@@ -5,7 +5,7 @@ use Rattle.std.proofs.lemmas.Result.{err_from_is_err_and}
 use Rattle.term.specs.Nodes.{name_of}
 use Rattle.term.specs.NodeSets.{set_of}
 use Rattle.node_core.specs.declared.Answer.{Answer}
-use Rattle.node_core.specs.Held.{Held as Core}
+use Rattle.node_core.specs.Held.{HeldCore}
 use Rattle.node_core.specs.NodeEventsSeen.{entry_by}
 use Rattle.node_core.specs.Rare.{most_entries, most_answers}
 use Rattle.protocol_model.specs.Links.{Links, posted, taken}
@@ -14,7 +14,7 @@ use Rattle.link.specs.Held.{place}
 use Rattle.world_events.specs.declared.events.WorldEvent.TheVariants.{Deliver}
 use Rattle.world_history.specs.declared.entry.HistoryEntry.{HistoryEntry}
 use Rattle.world_history.specs.Histories.{entries_of}
-use Rattle.cluster_world.specs.Held.{Held}
+use Rattle.cluster_world.specs.Held.{HeldWorld}
 use Rattle.cluster_world.specs.Histories.{number_at}
 use Rattle.cluster_world.specs.Links.{letters_to, IsFirstSender}
 use Rattle.cluster_world.specs.Mail.{links_of}
@@ -30,26 +30,26 @@ pub front-requires-clause-present : goal.front-requires-clause-present
 front-requires-clause-present g c =
     ap (λ (ns : List ℕ). set_of ns c.args.receiver.now) c.make_room.ensures.nodes
     ∙ known_place c.self.inside.links.nodes c.args.receiver.now c.args.place
-    (ap (λ (k : Held). place c.args.receiver.now k.links.nodes) c.self.view_is ∙ c.requires.receiver)
+    (ap (λ (k : HeldWorld). place c.args.receiver.now k.links.nodes) c.self.view_is ∙ c.requires.receiver)
 
 pub front-requires-clause-first : goal.front-requires-clause-first
 front-requires-clause-first g c =
     subst (λ (w : Links Letter). IsFirstSender (name_of c.args.sender.now) c.args.receiver.now (Some c.args.sender.now) w)
     (sym c.make_room.ensures.links)
-    (subst (λ (k : Held). IsFirstSender (name_of c.args.sender.now) c.args.receiver.now (Some c.args.sender.now) (links_of k.links))
+    (subst (λ (k : HeldWorld). IsFirstSender (name_of c.args.sender.now) c.args.receiver.now (Some c.args.sender.now) (links_of k.links))
     (sym c.self.view_is) c.requires.first)
 
 pub take-requires-clause-present : goal.take-requires-clause-present
 take-requires-clause-present g c =
     ap (λ (ns : List ℕ). set_of ns c.args.receiver.now) c.make_room.ensures.nodes
     ∙ known_place c.self.inside.links.nodes c.args.receiver.now c.args.place
-    (ap (λ (k : Held). place c.args.receiver.now k.links.nodes) c.self.view_is ∙ c.requires.receiver)
+    (ap (λ (k : HeldWorld). place c.args.receiver.now k.links.nodes) c.self.view_is ∙ c.requires.receiver)
 
 pub take-requires-clause-first : goal.take-requires-clause-first
 take-requires-clause-first g c =
     subst (λ (w : Links Letter). IsFirstSender (name_of c.args.sender.now) c.args.receiver.now (Some c.args.sender.now) w)
     (sym c.make_room.ensures.links)
-    (subst (λ (k : Held). IsFirstSender (name_of c.args.sender.now) c.args.receiver.now (Some c.args.sender.now) (links_of k.links))
+    (subst (λ (k : HeldWorld). IsFirstSender (name_of c.args.sender.now) c.args.receiver.now (Some c.args.sender.now) (links_of k.links))
     (sym c.self.view_is) c.requires.first)
 
 pub unreachable-requires : goal.unreachable-requires
@@ -57,14 +57,14 @@ unreachable-requires g c =
     has_front ((links_of c.make_room.new.links).queue c.args.sender.now c.args.receiver.now)
     ((subst (λ (w : Links Letter). IsFirstSender (name_of c.args.sender.now) c.args.receiver.now (Some c.args.sender.now) w)
     (sym c.make_room.ensures.links)
-    (subst (λ (k : Held). IsFirstSender (name_of c.args.sender.now) c.args.receiver.now (Some c.args.sender.now) (links_of k.links))
+    (subst (λ (k : HeldWorld). IsFirstSender (name_of c.args.sender.now) c.args.receiver.now (Some c.args.sender.now) (links_of k.links))
     (sym c.self.view_is) c.requires.first)).1)
     (ap (λ (o : Option _). option_copied o) (sym c.in_default.is) ∙ c.front.ensures)
 
 pub invariant_of-self-in_err-turn : goal.invariant_of-self-in_err-turn
 invariant_of-self-in_err-turn g c =
     whole_before _ c.self.invariant c.args.receiver.now c.args.place c.index_mut-core.result.now
-    (ap (λ (k : Held). place c.args.receiver.now k.links.nodes) c.self.view_is ∙ c.requires.receiver)
+    (ap (λ (k : HeldWorld). place c.args.receiver.now k.links.nodes) c.self.view_is ∙ c.requires.receiver)
     c.index_mut-core.ensures.value c.accept.new.self c.make_room.new.links c.make_room.new.history.entries c.accept.ensures.world
     c.in_err-turn.ensures.unchanged c.make_room.ensures.nodes c.make_room.ensures.links c.make_room.ensures.entries
 
@@ -77,7 +77,7 @@ pub returns-in_err-turn-clause-as_before : goal.returns-in_err-turn-clause-as_be
 returns-in_err-turn-clause-as_before g c =
     let p = err_from_is_err_and c.from_residual-in_err-turn.result c.from_residual-in_err-turn.ensures.1 in
     rw p.1 (as_before _ c.self.invariant c.args.receiver.now c.args.place c.index_mut-core.result.now
-    (ap (λ (k : Held). place c.args.receiver.now k.links.nodes) c.self.view_is ∙ c.requires.receiver)
+    (ap (λ (k : HeldWorld). place c.args.receiver.now k.links.nodes) c.self.view_is ∙ c.requires.receiver)
     c.index_mut-core.ensures.value c.accept.new.self c.make_room.new.links c.make_room.new.history.entries
     c.in_err-turn.ensures.unchanged c.make_room.ensures.nodes c.make_room.ensures.links c.make_room.ensures.entries
     ∙ ap named c.self.view_is)
@@ -86,13 +86,13 @@ pub take_in-answers-requires-clause-node : goal.take_in-answers-requires-clause-
 take_in-answers-requires-clause-node g c =
     ap (λ (ns : List ℕ). set_of ns c.args.receiver.now) (c.take.ensures.nodes ∙ c.make_room.ensures.nodes)
     ∙ known_place c.self.inside.links.nodes c.args.receiver.now c.args.place
-    (ap (λ (k : Held). place c.args.receiver.now k.links.nodes) c.self.view_is ∙ c.requires.receiver)
+    (ap (λ (k : HeldWorld). place c.args.receiver.now k.links.nodes) c.self.view_is ∙ c.requires.receiver)
 
 pub take_in-answers-requires-clause-within : goal.take_in-answers-requires-clause-within
 take_in-answers-requires-clause-within g c =
     read_goes _ c.self.invariant c.make_room.ensures.left c.args.place c.args.sender.now c.args.receiver.now
-    (ap (λ (k : Held). place c.args.receiver.now k.links.nodes) c.self.view_is ∙ c.requires.receiver)
-    (subst (λ (k : Held). IsFirstSender (name_of c.args.sender.now) c.args.receiver.now (Some c.args.sender.now) (links_of k.links))
+    (ap (λ (k : HeldWorld). place c.args.receiver.now k.links.nodes) c.self.view_is ∙ c.requires.receiver)
+    (subst (λ (k : HeldWorld). IsFirstSender (name_of c.args.sender.now) c.args.receiver.now (Some c.args.sender.now) (links_of k.links))
     (sym c.self.view_is) c.requires.first)
     (admitted c.args.self.now _ c.self.view_is c.args.place (Deliver (name_of c.args.sender.now) (name_of c.args.receiver.now))
     c.requires.admitted) c.index_mut-core.result.now c.index_mut-core.ensures.value
@@ -105,10 +105,10 @@ take_in-answers-requires-clause-within g c =
 pub take_in-answers-requires-clause-room : goal.take_in-answers-requires-clause-room
 take_in-answers-requires-clause-room g c =
     less_fits _ (most_entries c.index_mut-core.result.now) _ c.in_ok-turn.ensures.few.entries
-    (subst (λ (k : Core). min (2 ^ 64 - 1) (most_entries k) ≤ c.make_room.new.history.room)
+    (subst (λ (k : HeldCore). min (2 ^ 64 - 1) (most_entries k) ≤ c.make_room.new.history.room)
     (same_core c.args.self.now _ c.self.view_is c.args.place c.index_mut-core.result.now c.index_mut-core.ensures.value
     (within _ c.self.invariant c.args.receiver.now c.args.place c.index_mut-core.result.now
-    (ap (λ (k : Held). place c.args.receiver.now k.links.nodes) c.self.view_is ∙ c.requires.receiver)
+    (ap (λ (k : HeldWorld). place c.args.receiver.now k.links.nodes) c.self.view_is ∙ c.requires.receiver)
     c.index_mut-core.ensures.value)
     c.index.result.now c.index.ensures)
     c.in_ok-make_room.ensures.room)
@@ -116,8 +116,8 @@ take_in-answers-requires-clause-room g c =
 pub invariant_of-self-2 : goal.invariant_of-self-2
 invariant_of-self-2 g c =
     read_whole _ c.self.invariant c.make_room.ensures.left c.args.place c.args.sender.now c.args.receiver.now
-    (ap (λ (k : Held). place c.args.receiver.now k.links.nodes) c.self.view_is ∙ c.requires.receiver)
-    (subst (λ (k : Held). IsFirstSender (name_of c.args.sender.now) c.args.receiver.now (Some c.args.sender.now) (links_of k.links))
+    (ap (λ (k : HeldWorld). place c.args.receiver.now k.links.nodes) c.self.view_is ∙ c.requires.receiver)
+    (subst (λ (k : HeldWorld). IsFirstSender (name_of c.args.sender.now) c.args.receiver.now (Some c.args.sender.now) (links_of k.links))
     (sym c.self.view_is) c.requires.first)
     (admitted c.args.self.now _ c.self.view_is c.args.place (Deliver (name_of c.args.sender.now) (name_of c.args.receiver.now))
     c.requires.admitted) c.index_mut-core.result.now c.index_mut-core.ensures.value
@@ -133,7 +133,7 @@ invariant_of-self-2 g c =
     ∙ ap (λ (es : List HistoryEntry). entries_of es
     ++ map (entry_by (number_at c.deref.result.now c.args.receiver.now c.join_of-own.result)) c.in_ok-turn.turn.entries)
     c.make_room.ensures.entries
-    ∙ ap (λ (cs : List Core). entries_of c.self.inside.history.entries
+    ∙ ap (λ (cs : List HeldCore). entries_of c.self.inside.history.entries
     ++ map (entry_by (number_at cs c.args.receiver.now c.join_of-own.result)) c.in_ok-turn.turn.entries)
     c.deref.ensures.value)
 
@@ -147,8 +147,8 @@ returns-clause-ok g c =
     answers_are c.take_in-answers.ensures.answers
     (played c.args.self.now _ c.self.view_is (Deliver (name_of c.args.sender.now) (name_of c.args.receiver.now)) _ _
     (read_played _ c.self.invariant c.make_room.ensures.left c.args.place c.args.sender.now c.args.receiver.now
-    (ap (λ (k : Held). place c.args.receiver.now k.links.nodes) c.self.view_is ∙ c.requires.receiver)
-    (subst (λ (k : Held). IsFirstSender (name_of c.args.sender.now) c.args.receiver.now (Some c.args.sender.now) (links_of k.links))
+    (ap (λ (k : HeldWorld). place c.args.receiver.now k.links.nodes) c.self.view_is ∙ c.requires.receiver)
+    (subst (λ (k : HeldWorld). IsFirstSender (name_of c.args.sender.now) c.args.receiver.now (Some c.args.sender.now) (links_of k.links))
     (sym c.self.view_is) c.requires.first)
     (admitted c.args.self.now _ c.self.view_is c.args.place (Deliver (name_of c.args.sender.now) (name_of c.args.receiver.now))
     c.requires.admitted) c.index_mut-core.result.now c.index_mut-core.ensures.value
@@ -164,7 +164,7 @@ returns-clause-ok g c =
     ∙ ap (λ (es : List HistoryEntry). entries_of es
     ++ map (entry_by (number_at c.deref.result.now c.args.receiver.now c.join_of-own.result)) c.in_ok-turn.turn.entries)
     c.make_room.ensures.entries
-    ∙ ap (λ (cs : List Core). entries_of c.self.inside.history.entries
+    ∙ ap (λ (cs : List HeldCore). entries_of c.self.inside.history.entries
     ++ map (entry_by (number_at cs c.args.receiver.now c.join_of-own.result)) c.in_ok-turn.turn.entries)
     c.deref.ensures.value)))
 
@@ -172,7 +172,7 @@ pub returns-clause-few : goal.returns-clause-few
 returns-clause-few g c =
     few_answers c.args.self.now _ c.self.view_is c.args.place c.index_mut-core.result.now c.index_mut-core.ensures.value
     (within _ c.self.invariant c.args.receiver.now c.args.place c.index_mut-core.result.now
-    (ap (λ (k : Held). place c.args.receiver.now k.links.nodes) c.self.view_is ∙ c.requires.receiver)
+    (ap (λ (k : HeldWorld). place c.args.receiver.now k.links.nodes) c.self.view_is ∙ c.requires.receiver)
     c.index_mut-core.ensures.value)
     c.take_in-answers.result.0.items
     (subst (λ (given : List Answer). length given ≤ most_answers c.index_mut-core.result.now)
@@ -183,7 +183,7 @@ pub index_mut-core-requires : goal.index_mut-core-requires
 index_mut-core-requires g c =
     subst (λ (n : ℕ). c.args.place < n) (sym c.self.inside.cores.ok.0)
     (within _ c.self.invariant c.args.receiver.now c.args.place c.index.result.now
-    (ap (λ (k : Held). place c.args.receiver.now k.links.nodes) c.self.view_is ∙ c.requires.receiver) c.index.ensures)
+    (ap (λ (k : HeldWorld). place c.args.receiver.now k.links.nodes) c.self.view_is ∙ c.requires.receiver) c.index.ensures)
 
 pub invariant_of-self : goal.invariant_of-self
 invariant_of-self g c =

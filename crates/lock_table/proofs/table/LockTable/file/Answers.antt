@@ -1,8 +1,8 @@
 use Rattle.std.proofs.Common.{ℕ, [], Some, List, ◌∷◌, ◌++◌, ap, subst, ◌∙◌, arith}
 use Rattle.indexmap.specs.IndexMap.{insert_entry}
 use Rattle.indexmap.proofs.CallerLemmas.{insert_entry-new}
-use Rattle.lock_table.specs.Filed.{Entry, is_key, listed}
-use Rattle.lock_table.specs.declared.grant.Held.{Held}
+use Rattle.lock_table.specs.Filed.{FiledGrant, is_key, listed}
+use Rattle.lock_table.specs.declared.grant.HeldLock.{HeldLock}
 use Rattle.lock_table.specs.Sharers.{Joins, Shared, grants_in, sharers_of}
 use Rattle.lock_table.proofs.First.{countable-next, held-none, kept-first, listed-first}
 use Rattle.lock_table.proofs.Index.{Sets}
@@ -22,7 +22,7 @@ invariant_of-self-2 c =
     let m = c.self.inside.grants in
     let absent = rw (← c.self.view_is) at c.requires.absent in
     let free = rw (← c.self.view_is) at c.requires.free in
-    let first : Held = record { requester = c.args.requester; count = 1; number = n } in
+    let first : HeldLock = record { requester = c.args.requester; count = 1; number = n } in
     let none = held-none n m.entries c.self.invariant.0 c.self.inside.shared.entries c.self.invariant.2 c.args.key
     c.args.requester absent free in
     kept-first n m.entries c.self.invariant.0 c.self.inside.shared.entries c.self.invariant.2 c.args.key
@@ -32,10 +32,10 @@ invariant_of-self-2 c =
     c.reserve-2.ensures.entries c.join.ensures)
     c.in-Some.next c.in-Some.ensures.1 c.insert-2.new.self.entries
     ((rw c.unwrap-none.ensures at c.insert-2.ensures.entries)
-    ∙ ap (λ (es : List Entry). insert_entry is_key es c.args.key first) c.reserve.ensures.entries
+    ∙ ap (λ (es : List FiledGrant). insert_entry is_key es c.args.key first) c.reserve.ensures.entries
     ∙ insert_entry-new is_key m c.args.key first none)
     c.insert-2.ensures.unique
-    (subst (λ (es : List Entry). Sets c.args.key (Some first) es c.insert-2.new.self.entries) c.reserve.ensures.entries
+    (subst (λ (es : List FiledGrant). Sets c.args.key (Some first) es c.insert-2.new.self.entries) c.reserve.ensures.entries
     (rw c.unwrap-none.ensures at c.insert-2.ensures.updates).0)
 
 pub returns-clause-ok : goal.returns-clause-ok
@@ -44,13 +44,13 @@ returns-clause-ok c =
     let m = c.self.inside.grants in
     let absent = rw (← c.self.view_is) at c.requires.absent in
     let free = rw (← c.self.view_is) at c.requires.free in
-    let first : Held = record { requester = c.args.requester; count = 1; number = n } in
+    let first : HeldLock = record { requester = c.args.requester; count = 1; number = n } in
     let none = held-none n m.entries c.self.invariant.0 c.self.inside.shared.entries c.self.invariant.2 c.args.key
     c.args.requester absent free in
     rw (← c.self.view_is)
     (ap (listed c.in-Some.next)
     ((rw c.unwrap-none.ensures at c.insert-2.ensures.entries)
-    ∙ ap (λ (es : List Entry). insert_entry is_key es c.args.key first) c.reserve.ensures.entries
+    ∙ ap (λ (es : List FiledGrant). insert_entry is_key es c.args.key first) c.reserve.ensures.entries
     ∙ insert_entry-new is_key m c.args.key first none)
     ∙ ap (λ (j : ℕ). listed j (m.entries ++ (c.args.key, first) ∷ [])) c.in-Some.ensures.1
     ∙ listed-first n m.entries c.self.invariant.0 c.self.inside.shared.entries c.self.invariant.2 c.args.key

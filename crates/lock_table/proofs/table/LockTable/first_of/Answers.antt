@@ -1,5 +1,5 @@
 use Rattle.std.proofs.Common.{sym, subst, ◌∙◌}
-use Rattle.lock_table.specs.declared.grant.Place.{Place}
+use Rattle.lock_table.specs.declared.grant.GrantPlace.{GrantPlace}
 use Rattle.lock_table.specs.Index.{IsFirstFrom, IsNoneFrom}
 use Rattle.lock_table.proofs.Changes.{same_process}
 use Rattle.lock_table.proofs.Facts.{on_none_given}
@@ -11,7 +11,7 @@ returns-in_err-key-clause-none c =
     on_none_given c.from_residual.result
     (rw (← c.self.view_is)
     (none_of c.self.inside.next c.self.inside.grants.entries c.self.inside.by_holder (c.self.invariant.0, c.self.invariant.1) c.args.holder.now
-    (subst (λ (a : Place). IsNoneFrom c.self.inside.by_holder a) c.of.ensures c.in_err-key.ensures.none)))
+    (subst (λ (a : GrantPlace). IsNoneFrom c.self.inside.by_holder a) c.of.ensures c.in_err-key.ensures.none)))
 
 pub returns-then-eq-clause-some : goal.returns-then-eq-clause-some
 returns-then-eq-clause-some c = (
@@ -25,5 +25,5 @@ pub returns-else-eq-clause-none : goal.returns-else-eq-clause-none
 returns-else-eq-clause-none c =
     rw (← c.self.view_is)
     (none_of-first c.self.inside.next c.self.inside.grants.entries c.self.inside.by_holder (c.self.invariant.0, c.self.invariant.1) c.args.holder.now
-    _ (subst (λ (a : Place). IsFirstFrom c.self.inside.by_holder a c.in_ok-key.key) c.of.ensures
+    _ (subst (λ (a : GrantPlace). IsFirstFrom c.self.inside.by_holder a c.in_ok-key.key) c.of.ensures
     c.in_ok-key.ensures.some) (sym c.eq.ensures ∙ c.if-eq.false))

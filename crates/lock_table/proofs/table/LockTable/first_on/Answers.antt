@@ -1,7 +1,7 @@
 use Rattle.std.proofs.Common.{ℕ, false, ◌==◌, ◌≡◌, sym, ap, subst, ◌∙◌}
 use Rattle.std.proofs.lemmas.Bool.{eqb-true}
 use Rattle.lock_table.specs.declared.grant.Key.{Key}
-use Rattle.lock_table.specs.declared.grant.Place.{Place}
+use Rattle.lock_table.specs.declared.grant.GrantPlace.{GrantPlace}
 use Rattle.lock_table.specs.Index.{IsFirstFrom, IsNoneFrom, place_at}
 use Rattle.lock_table.proofs.Facts.{on_none_given}
 use Rattle.lock_table.proofs.Finding.{listed_under, none_on, none_on-first}
@@ -12,7 +12,7 @@ returns-in_err-key-clause-none c =
     on_none_given c.from_residual.result
     (rw (← c.self.view_is)
     (none_on c.self.inside.next c.self.inside.grants.entries c.self.inside.by_holder (c.self.invariant.0, c.self.invariant.1) c.args.node.now
-    (subst (λ (a : Place). IsNoneFrom c.self.inside.by_holder a)
+    (subst (λ (a : GrantPlace). IsNoneFrom c.self.inside.by_holder a)
     (c.of.ensures ∙ ap (λ (d : ℕ). place_at (record { node = d; serial = 0 }) 0) c.copy.ensures)
     c.in_err-key.ensures.none)))
 
@@ -29,7 +29,7 @@ returns-else-eq-clause-none c =
     rw (← c.self.view_is)
     (none_on-first c.self.inside.next c.self.inside.grants.entries c.self.inside.by_holder (c.self.invariant.0, c.self.invariant.1) c.args.node.now
     c.in_ok-key.key
-    (subst (λ (a : Place). IsFirstFrom c.self.inside.by_holder a c.in_ok-key.key)
+    (subst (λ (a : GrantPlace). IsFirstFrom c.self.inside.by_holder a c.in_ok-key.key)
     (c.of.ensures ∙ ap (λ (d : ℕ). place_at (record { node = d; serial = 0 }) 0) c.copy.ensures)
     c.in_ok-key.ensures.some)
     (subst (λ (n : ℕ). (n == c.args.node.now) ≡ false) (ap (λ (k : Key). k.holder.node) c.key.view_is)

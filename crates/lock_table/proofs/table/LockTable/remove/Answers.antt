@@ -1,6 +1,6 @@
 use Rattle.std.proofs.Common.{None, sym, ap, subst, ◌∙◌}
 use Rattle.lock_table.specs.Filed.{listed}
-use Rattle.lock_table.specs.declared.grant.Place.{Place}
+use Rattle.lock_table.specs.declared.grant.GrantPlace.{GrantPlace}
 use Rattle.lock_table.proofs.Index.{SetsAt, indexed-gone}
 use Rattle.lock_table.proofs.Removal.{Gone, gone-swapped, filed-removed, listed-kept_all, listed-removed}
 use Rattle.lock_table.proofs.Sharing.{shared-gone}
@@ -15,7 +15,7 @@ invariant_of-self c =
       filed-removed k c.self.inside.next es _ c.self.invariant.0 gone,
       indexed-gone es c.swap_remove.new.self.entries c.self.inside.by_holder c.remove.new.self c.self.invariant.1 k
           c.in-Some.held found c.swap_remove.ensures.updates.0
-          (subst (λ (p : Place). SetsAt p None c.self.inside.by_holder c.remove.new.self) c.of.ensures
+          (subst (λ (p : GrantPlace). SetsAt p None c.self.inside.by_holder c.remove.new.self) c.of.ensures
           c.remove.ensures.updates.0),
       shared-gone es c.self.inside.shared.entries c.self.invariant.2 k _ c.leave.new.shared.entries gone
           c.leave.ensures c.swap_remove.ensures.updates.0,

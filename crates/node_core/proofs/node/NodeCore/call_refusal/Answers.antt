@@ -1,7 +1,7 @@
 use Rattle.std.proofs.Common.{[], ◌∷◌, sym, ap, ◌∙◌}
 use Rattle.protocol_model.specs.Event.{lock_causes, calls_spent}
 use Rattle.transaction.specs.Calls.{retries_of}
-use Rattle.node_events.specs.declared.events.Event.TheVariants.{Call as Calls}
+use Rattle.node_events.specs.declared.events.NodeEvent.TheVariants.{Call as Calls}
 use Rattle.node_events.specs.declared.events.Call.{Call}
 use Rattle.node_core.specs.Seen.{node_of}
 use Rattle.node_core.specs.Steps.{refusal_of, cause_of}

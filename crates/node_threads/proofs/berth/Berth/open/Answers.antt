@@ -2,7 +2,7 @@ use Rattle.std.proofs.Common.{ℕ, ◌≡◌, map, ◌∙◌, sym, ap, subst}
 use Rattle.node_loop.specs.declared.item.Item.{Item}
 use Rattle.node_loop.specs.Held.{Looping}
 use Rattle.node_loop.specs.Coming.{IsLoopOf}
-use Rattle.node_loop.specs.NodeCoreHeld.{Held}
+use Rattle.node_loop.specs.NodeCoreHeld.{HeldCore}
 use Rattle.node_loop.specs.Sound.{BeginsSound}
 use Rattle.node_seats.specs.Addresses.{Reached}
 use Rattle.node_threads.specs.Wires.{unused}
@@ -22,7 +22,7 @@ invariant_of-result g c =
         came = subst (λ (n : ℕ). IsLoopOf n c.in_ok-node.node) (sym at)
             (comes_first c.args.opening.now.nodes c.args.opening.now.cluster c.args.node.now c.args.shared.now.stamp c.core.result c.in_ok-node.node
             c.in_ok-node.ensures.new c.core.ensures.opens);
-        sound = subst (λ (h : Held). BeginsSound h c.in_ok-node.node) (sym (ap (λ (l : Looping). l.core) c.in_ok-node.ensures.new))
+        sound = subst (λ (h : HeldCore). BeginsSound h c.in_ok-node.node) (sym (ap (λ (l : Looping). l.core) c.in_ok-node.ensures.new))
             c.in_ok-node.ensures.sound;
         empty = c.in_ok-address.ensures.empty;
         fresh = ap (map unused) c.new-2.ensures.items ∙ sym c.new-2.ensures.items;

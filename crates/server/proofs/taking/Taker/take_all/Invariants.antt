@@ -1,6 +1,6 @@
 use Rattle.std.proofs.Common.{◌≤◌}
 use Rattle.server.specs.Taking.{starts_of, Takes}
-use Rattle.server.proofs.taking.Door.take_all.Given as goal
+use Rattle.server.proofs.taking.Taker.take_all.Given as goal
 
 abbrev pub invariant-loop : goal.invariant-loop
 invariant-loop g l = record {

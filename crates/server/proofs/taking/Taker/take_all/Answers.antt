@@ -1,7 +1,7 @@
 use Rattle.std.proofs.Common.{◌+◌, arith}
 use Rattle.server.specs.Taking.{starts_of}
 use Rattle.server.proofs.Doors.{reaches_still, both_taken}
-use Rattle.server.proofs.taking.Door.take_all.Goals as goal
+use Rattle.server.proofs.taking.Taker.take_all.Goals as goal
 
 pub take_one-requires-after_bounds : goal.take_one-requires-after_bounds
 take_one-requires-after_bounds g c = λ κs within. reaches_still c.args.self.now.nodes c.loop.counter c.args.cluster.now c.loop.cluster

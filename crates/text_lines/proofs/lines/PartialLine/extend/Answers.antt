@@ -1,8 +1,8 @@
 use Rattle.std.proofs.Common.{◌≡◌, ◌+◌, ◌-◌, ◌==◌, ℕ, List, ◌++◌, length, min, ap, sym, ◌∙◌, arith, take, length-append}
-use Rattle.text_lines.specs.declared.lines.Part.{Part}
+use Rattle.text_lines.specs.declared.lines.PartialLine.{PartialLine}
 use Rattle.text_lines.proofs.Parts.{take-extend, last-extend, last-same}
-use Rattle.text_lines.proofs.lines.Part.extend.Goals as goal
-use Rattle.text_lines.proofs.lines.Part.extend.Goals.{in-Some, in_default}
+use Rattle.text_lines.proofs.lines.PartialLine.extend.Goals as goal
+use Rattle.text_lines.proofs.lines.PartialLine.extend.Goals.{in-Some, in_default}
 
 pub returns : goal.returns
 returns c before h =
@@ -19,16 +19,16 @@ returns c before h =
     ) in
     elim c.match-last.branch [
       | in-Some w ↦ record {
-        text = ap (λ (p : Part). p.text.items) w.self-is ∙ kept;
-        len = ap (λ (p : Part). p.len + length bytes) w.self-is ∙ len;
-        ends_in_return = ap (λ (p : Part). p.ends_in_return) w.self-is
+        text = ap (λ (p : PartialLine). p.text.items) w.self-is ∙ kept;
+        len = ap (λ (p : PartialLine). p.len + length bytes) w.self-is ∙ len;
+        ends_in_return = ap (λ (p : PartialLine). p.ends_in_return) w.self-is
             ∙ ap (λ (b : ℕ). b == 13) (w.in-Some.ensures.item.4 (omega arith) 0
             ∙ sym (last-extend before bytes w.in-Some.ensures.item.3.0));
       }
       | in_default w ↦ record {
-        text = ap (λ (p : Part). p.text.items) w.self-is ∙ kept;
-        len = ap (λ (p : Part). p.len + length bytes) w.self-is ∙ len;
-        ends_in_return = ap (λ (p : Part). p.ends_in_return) w.self-is ∙ h.ends_in_return
+        text = ap (λ (p : PartialLine). p.text.items) w.self-is ∙ kept;
+        len = ap (λ (p : PartialLine). p.len + length bytes) w.self-is ∙ len;
+        ends_in_return = ap (λ (p : PartialLine). p.ends_in_return) w.self-is ∙ h.ends_in_return
             ∙ sym (ap (λ (b : ℕ). b == 13) (last-same before bytes w.in_default.ensures.item.3));
       }
     ]

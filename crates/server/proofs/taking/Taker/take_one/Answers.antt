@@ -1,7 +1,7 @@
 use Rattle.std.proofs.Common.{ℕ, List, sym, subst}
 use Rattle.server.specs.Attending.{Reaches}
 use Rattle.server.proofs.Doors.{seats_by, seat_reaches}
-use Rattle.server.proofs.taking.Door.take_one.Goals as goal
+use Rattle.server.proofs.taking.Taker.take_one.Goals as goal
 
 pub start_console-requires-after_bounds : goal.start_console-requires-after_bounds
 start_console-requires-after_bounds g c = λ κs within. subst (λ (ns : List ℕ). Reaches ns c.free_seat-place.result) (sym c.copy-nodes.ensures)

@@ -1,6 +1,6 @@
 use Rattle.std.proofs.Common.{ℕ, List, ap, ◌∙◌, arith, take}
 use Rattle.text_lines.proofs.Parts.{take-kept}
-use Rattle.text_lines.proofs.lines.Part.end.Goals as goal
+use Rattle.text_lines.proofs.lines.PartialLine.end.Goals as goal
 
 pub returns-then-len-le-LONGEST_LINE : goal.returns-then-len-le-LONGEST_LINE
 returns-then-len-le-LONGEST_LINE c bytes h =
