@@ -10,6 +10,8 @@ mod First
 mod Holders
 mod Ids
 mod Index
+mod Keeping
+mod Kept
 mod Keys
 mod Listed
 mod Places
