@@ -108,9 +108,9 @@ try_lock(Resource, Requester, Nodes, Retries, Try) ->
             Answer
     end.
 
-%% As long as `global' pauses: a quarter of a second at most, and twice as long behind each five tries, up to eight seconds.
+%% As long as `global' pauses: a quarter of a second at most the first time, and each time twice as long, up to eight seconds.
 pause(Try) ->
-    rand:uniform(min(8000, 250 bsl min(5, (Try - 1) div 5))).
+    rand:uniform(250 bsl min(5, Try - 1)).
 
 lock(Resource, Requester, Nodes, Retries) ->
     case call({set_lock, Resource, Requester, Nodes, Retries}) of

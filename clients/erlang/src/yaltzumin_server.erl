@@ -272,8 +272,9 @@ with_text(Pid, Then, #state{owners = Owners} = State) ->
 spawns(Pid, #state{owners = Owners} = State) ->
     asks([<<"spawn">>], fun(Text, S) -> spawned(Pid, Text, S) end, State#state{owners = yaltzumin_owners:add(Pid, Owners)}).
 
-spawned(_, {error, Word}, State) ->
-    starts_anew({spawn_refused, Word}, State);
+spawned(_, {error, Word}, _) ->
+    %% What was asked behind it of `self' is another process's: nothing of it may go out.
+    exit({spawn_refused, Word});
 spawned(Pid, Text, #state{owners = Owners} = State0) ->
     yaltzumin_table:learn_pid(Text, Pid),
     {Waiting, How, Rest} = yaltzumin_owners:spawned(Pid, Text, Owners),

@@ -20,4 +20,4 @@ init(Options) ->
     Server = #{id => yaltzumin_server,
                start => {yaltzumin_server, start_link, [Options]},
                shutdown => ?LEAVING},
-    {ok, {#{strategy => one_for_one, intensity => 5, period => 10}, [Server]}}.
+    {ok, {#{strategy => one_for_one, intensity => 10, period => 10}, [Server]}}.
