@@ -1,6 +1,7 @@
 %% @doc What a node's server knows of names and processes, as tables that the supervisor owns: the names with their owners, in which
 %% {@link yaltzumin:whereis_name/1} looks, and which term or process a text of the program stands for.
 -module(yaltzumin_table).
+-compile({no_auto_import, [put/2]}).
 -export([new/0]).
 -export([owner/1, names/0, own_names/0]).
 -export([put/2, remove/1, strike/1, drop/1, replace/1, clear/0]).

@@ -153,7 +153,7 @@ joins_test() ->
     {<<>>, Lone} = peers(false, []),
     ?assertEqual(none, yaltzumin_peers:contact(Lone)),
     Members = [<<"b@h">>, <<"c@h/2">>],
-    {<<>>, Met} = greeted(hello(<<"b@h">>, Members, []), Lone),
+    {<<>>, Met} = greeted(Hello = hello(<<"b@h">>, Members, []), Lone),
     %% Not before it is linked with each member.
     ?assertEqual(missing, yaltzumin_peers:contact(Met)),
     {_, Linked} = greeted(hello(<<"c@h/2">>, Members, []), Met),
@@ -163,7 +163,7 @@ joins_test() ->
     ?assert(yaltzumin_peers:is_synchronous(['b@h', 'c@h'], Joined)),
     ?assertNot(yaltzumin_peers:is_synchronous(['d@h'], Joined)),
     %% It was admitted by one that is gone, and its welcome was lost.
-    {_, Admitted} = greeted(hello(<<"b@h">>, [?ME | Members], []), Linked),
+    {_, Admitted} = greeted(Hello#{members := [?ME | Members]}, Linked),
     ?assertEqual(starts_anew, yaltzumin_peers:contact(Admitted)),
     ?assertEqual(none, yaltzumin_peers:contact(yaltzumin_peers:set_state(true, Members ++ [?ME], Admitted))).
 
