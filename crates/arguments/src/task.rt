@@ -3,7 +3,7 @@ ghost use Rattle.std.specs.Prelude.{option_map, string_bytes};
 ghost use Rattle.arguments.specs.Together.{Clashes, NamesSocket};
 
 use crate::faults::OptionFault;
-use term::{NodeName, NodeNames};
+use term::{Node, NodeNames};
 
 /// What the address begins with where it is the path of a socket.
 const SOCKET: &str = "unix:";
@@ -23,7 +23,7 @@ pub enum Task {
 #[derive(Debug, Drop)]
 pub struct NodeOptions {
     /// The node, which is one of the world.
-    pub node: NodeName,
+    pub node: Node,
     /// All nodes of the world.
     pub world: NodeNames,
 }

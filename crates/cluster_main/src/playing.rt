@@ -55,8 +55,9 @@ pub(crate) fn run<R: Read, W: Write>(
       new = W.contents writer.new;
     }) result }
 {
-    let node = Node::first(options.node.copy());
-    let world = NodeSet::first_of(&options.world);
+    let node = options.node.copy();
+    let first = Node::first(node.name().copy());
+    let world = NodeSet::first_of(&options.world).with_next(&first, &node);
     let ran = run_node(alloc, &node, &world, reader, writer);
     if writer.flush().is_err() {
         return 1;

@@ -157,6 +157,26 @@ impl<N: Names<Memory = Global>, L: Record> NodeLoop<N, L> {
         self.work(from, item)
     }
 
+    /// The next node of a name takes the place of the one before it in the world, of which the node was told that it has left: whether
+    /// it was.
+    pub fn replace(&mut self, next: &Node) -> bool {
+        let Some(place) = self.world.as_slice().iter().position(|node| node.name() == next.name()) else {
+            return false;
+        };
+        let older = self.world.as_slice()[place].copy();
+        let follows = match older.next() {
+            Some(node) => node == *next,
+            None => false,
+        };
+        if !follows || !self.core.told().reaches(&older) {
+            return false;
+        }
+        self.core.replace(&older, next);
+        self.world = self.core.world().copy();
+        self.tray.rename(place, next.copy());
+        true
+    }
+
     /// Its node.
     pub fn node(&self) -> &Node
         ensures { result.now ≡ self.now.log.node }

@@ -25,6 +25,8 @@ pub(crate) enum Command {
     Letter(Node, LinkLine),
     /// Another node is gone without a word.
     Down(Node),
+    /// The next node of a name has started.
+    Started(Node),
     /// Time went by.
     Tick,
 }
@@ -235,6 +237,9 @@ fn read_untagged(text: &str) -> Result<Command, LineFault>
     }
     if let Some(node) = text.strip_prefix("down ") {
         return Ok(Command::Down(parse_node(node)?));
+    }
+    if let Some(node) = text.strip_prefix("started ") {
+        return Ok(Command::Started(parse_node(node)?));
     }
     if text == "tick" {
         Ok(Command::Tick)

@@ -66,6 +66,10 @@ fn open_loop(
     ensures { IfOk result (λ new. new ≡ begun 0 (core_of node.now world.now founds)) }
 {
     let members = NodeSet::one(node.copy());
+    if node.creation() > 1 {
+        let older = Node::of(node.name().copy(), node.creation() - 1);
+        return NodeLoop::new(alloc, NodeCore::come_back(alloc, node.copy(), world, &NodeSet::one(older)), 0);
+    }
     NodeLoop::new(
         alloc,
         NodeCore::new(alloc, node.copy(), world, &members, founds),
@@ -355,6 +359,14 @@ impl Port {
             Command::Letter(from, line) => self.hear(&from, line),
             Command::Down(node) => self.lose(&node),
             Command::Steps(tag) => self.count(tag),
+            Command::Started(next) => {
+                if self.node.replace(&next) {
+                    self.end.reopen(&next);
+                } else {
+                    push_no_such_node(&mut self.output.answers)?;
+                }
+                Ok(Standing::Runs)
+            }
         }
     }
 

@@ -52,7 +52,7 @@ impl Node {
     }
 
     /// The node of a name with this creation.
-    fn of(name: NodeName, creation: u32) -> Self
+    pub fn of(name: NodeName, creation: u32) -> Self
         requires { 1 ≤ creation }
         ensures node { result ≡ name + (creation - 1) }
         ensures first { IsFirst name }

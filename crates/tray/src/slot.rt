@@ -25,6 +25,14 @@ impl<L> Model for Slot<L> {
     ghost view = { λ s. record { receiver = s.receiver; letters = s.letters.items } };
 }
 
+impl<L: Drop> Slot<L> {
+    /// They are for another receiver now: none waits.
+    pub(crate) fn rename(&mut self, next: Node) {
+        self.receiver = next;
+        while self.letters.pop_front().is_some() {}
+    }
+}
+
 impl<L> Slot<L> {
     /// No letter for this receiver. It takes no memory.
     pub(crate) fn new(alloc: Global, receiver: Node) -> Self

@@ -64,6 +64,11 @@ impl<L: Drop> Tray<L> {
         self.slots[place].push(letter)
     }
 
+    /// The next node of a name takes the place of a receiver: what waited for that is dropped.
+    pub fn rename(&mut self, place: usize, next: Node) {
+        self.slots[place].rename(next)
+    }
+
     /// Whether no letter waits.
     pub fn is_empty(&self) -> bool
         ensures { result ≡ list_all (λ w. is_nil w.letters) self.now }

@@ -88,6 +88,15 @@ impl Wire {
         Ok(letter)
     }
 
+    /// The next node of the other one's name has started: nothing came or went.
+    pub(crate) fn reopen(&mut self, next: Node) {
+        self.node = next;
+        self.read = 0;
+        self.written = 0;
+        self.parts.clear();
+        self.is_down = false;
+    }
+
     /// The other node is gone without a word. Parts that came of a letter are forgotten.
     pub(crate) fn close(&mut self)
         ensures { self.new ≡ record self.old { parts = nothing; is_down = true } }

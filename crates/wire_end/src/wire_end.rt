@@ -200,6 +200,14 @@ impl WireEnd {
         Ok(())
     }
 
+    /// The next node of another one's name has started: the link with it begins anew.
+    pub fn reopen(&mut self, next: &Node) {
+        let place = self.wires.as_slice().iter().position(|wire| wire.node().name() == next.name());
+        if let Some(place) = place {
+            self.wires[place].reopen(next.copy());
+        }
+    }
+
     /// A task waits to be taken, behind the others.
     pub fn ask(&mut self, task: Task) -> Result<(), AllocError>
         ensures ok { OnOk result (self.new ≡ record self.old { tasks = self.old.tasks ++ task ∷ [] }) }
