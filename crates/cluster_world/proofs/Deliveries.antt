@@ -18,14 +18,17 @@ use Rattle.term.specs.Nodes.{IsFirst, text_in, name_of, creation_of, first_node}
 use Rattle.term.specs.NodeSets.{set_of, names_in, with_older}
 use Rattle.term.proofs.Numbers.{of_both, text_in-first_node, name_of-packed, name_of-first}
 use Rattle.term.proofs.Older.{held}
+use Rattle.link.specs.declared.link_place.LinkPlace.{LinkPlace}
 use Rattle.link.specs.Held.{place}
 use Rattle.node_core.specs.declared.Letter.{Letter}
 use Rattle.node_core.specs.Held.{Held as Core, HaveLeft}
 use Rattle.node_core.specs.Letters.{letter_of}
 use Rattle.world_events.specs.declared.events.WorldEvent.TheVariants.{Deliver}
 use Rattle.world_events.specs.declared.refusal.Refusal.TheVariants.{NoSuchNode, NodeLeft, EmptyLink}
+use Rattle.cluster_world.specs.declared.admission.Delivery.{Delivery}
+use Rattle.cluster_world.specs.Admissions.{IsReady, delivered_by}
 use Rattle.cluster_world.specs.Held.{Held, nodes_of}
-use Rattle.cluster_world.specs.Links.{IsFirstSender}
+use Rattle.cluster_world.specs.Links.{IsBetween, IsFirstSender}
 use Rattle.cluster_world.specs.Mail.{links_of}
 use Rattle.cluster_world.specs.Openings.{present_in}
 use Rattle.cluster_world.specs.Playing.{RefusedWith}
@@ -330,41 +333,43 @@ module _ (v h : Held) (same : v ≡ h) (whole : IsWhole v) (x y p : ℕ)
   links_too : (r : Option ℕ) → IsFirstSender x t r (links_of v.links) → IsFirstSender x t r (links_of h.links)
   links_too r = subst (λ (k : Held). IsFirstSender x t r (links_of k.links)) same
 
-  pub reads_here : set_of (nodes_of v) t ≡ true
-  reads_here = ap (λ (k : Held). set_of (nodes_of k) t) same ∙ present_too
-
-  pub reads_there : place t (nodes_of h) ≡ Some p
+  reads_there : place t (nodes_of h) ≡ Some p
   reads_there = ap (λ (m : ℕ). place m (nodes_of h)) reader_is ∙ seat.1
 
-  -- a node has sent the oldest letter for it
-  module _ (r : Option ℕ) (f : ℕ) (first : IsFirstSender x t r (links_of v.links)) (found : r ≡ Some f) where
-    first_too : IsFirstSender x t (Some f) (links_of h.links)
-    first_too = subst (λ (o : Option ℕ). IsFirstSender x t o (links_of h.links)) found (links_too r first)
-
-    pub reads_first : IsFirstSender (name_of f) t (Some f) (links_of h.links)
-    reads_first = subst (λ (z : ℕ). IsFirstSender z t (Some f) (links_of h.links)) (sym first_too.0) first_too
-
-    -- the delivery of its letter is that of these names
-    pub same_delivery : Deliver (name_of f) (name_of t) ≡ Deliver x y
-    same_delivery = ap (λ (z : ℕ). Deliver z (name_of t)) first_too.0 ∙ ap (λ (z : ℕ). Deliver x z) reads_as
+  pub reads_between : (k : LinkPlace) → k.receiver ≡ p → (s : ℕ) × (place s (nodes_of h) ≡ Some k.sender) × (name_of s ≡ x)
+      → IsBetween k x t (nodes_of v)
+  reads_between k at sends = subst (λ (m : Held). IsBetween k x t (nodes_of m)) (sym same)
+      (record { sender = sends; receiver = reads_there ∙ ap Some (sym at) })
 
   module _ (left : HaveLeft (nodes_of h) h.links.departed) where
-    -- where a letter waits for it, the delivery is admitted
-    pub admits_found : (r : Option ℕ) → IsFirstSender x t r (links_of v.links) → is_some r ≡ true → IsAdmitted p (Deliver x y) h
-    admits_found (Some f) first e =
-        admitted_by h whole_too left x y t present_too reads_as p f reads_there (links_too (Some f) first)
-    admits_found None first e = absurd (cc e)
+    -- where a letter waits for it, it may be delivered
+    module _ (d : Delivery) (at : d.link.receiver ≡ p) (to : d.receiver ≡ t)
+        (sends : (s : ℕ) × (place s (nodes_of h) ≡ Some d.link.sender) × (name_of s ≡ x))
+        (first : IsFirstSender x t (Some d.sender) (links_of v.links)) where
+      there_too : place d.receiver (nodes_of h) ≡ Some d.link.receiver
+      there_too = ap (λ (m : ℕ). place m (nodes_of h)) to ∙ reads_there ∙ ap Some (sym at)
+
+      its_first : IsFirstSender (name_of d.sender) d.receiver (Some d.sender) (links_of h.links)
+      its_first = subst (λ (m : ℕ). IsFirstSender (name_of d.sender) m (Some d.sender) (links_of h.links)) (sym to)
+          (subst (λ (z : ℕ). IsFirstSender z t (Some d.sender) (links_of h.links)) (sym first.0) (links_too (Some d.sender) first))
+
+      pub ready_found : IsReady d h
+      ready_found = record {
+        link = record { sender = (sends.0, sends.1, sends.2 ∙ sym first.0); receiver = there_too };
+        first = its_first;
+        admitted = admitted_by h whole_too left (name_of d.sender) (name_of d.receiver) d.receiver
+            (known_place (nodes_of h) d.receiver d.link.receiver there_too) refl d.link.receiver d.sender there_too its_first;
+      }
+
+      pub same_event : delivered_by d ≡ Deliver x y
+      same_event = ap (λ (z : ℕ). Deliver z (name_of d.receiver)) first.0
+          ∙ ap (λ (z : ℕ). Deliver x z) (ap name_of to ∙ reads_as)
 
     -- and otherwise refused, where its sender's name has a node
     module _ (q : ℕ) (sends : (s : ℕ) × (place s (nodes_of h) ≡ Some q) × (name_of s ≡ x)) (r : Option ℕ)
-        (first : IsFirstSender x t r (links_of v.links)) (nothing : is_some r ≡ false) where
+        (first : IsFirstSender x t r (links_of v.links)) (nothing : r ≡ None) where
       nobody_sends : IsFirstSender x t None (links_of h.links)
-      nobody_sends = go r (links_too r first) nothing
-        where
-          go : (r : Option ℕ) → IsFirstSender x t r (links_of h.links) → is_some r ≡ false
-              → IsFirstSender x t None (links_of h.links)
-          go None first e = first
-          go (Some f) first e = absurd (cc e)
+      nobody_sends = subst (λ (o : Option ℕ). IsFirstSender x t o (links_of h.links)) nothing (links_too r first)
 
       gone_too : (b : Bool) → (links_of v.links).closed t ≡ b → with_older h.links.departed t ≡ b
       gone_too b e = ap (λ (k : Held). with_older k.links.departed t) (sym same)
@@ -377,30 +382,3 @@ module _ (v h : Held) (same : v ≡ h) (whole : IsWhole v) (x y p : ℕ)
       pub refuses_found_empty : (links_of v.links).closed t ≡ false → RefusedWith EmptyLink (Deliver x y) h
       refuses_found_empty e = refuses_empty h whole_too left x y t present_too reads_as sends.0
           (known_place (nodes_of h) sends.0 q sends.1) sends.2 nobody_sends (gone_too false e)
-
-  -- an accepted one has a letter
-  pub finds_one : HaveLeft (nodes_of v) v.links.departed → IsFirst x → IsAdmitted p (Deliver x y) h
-      → (r : Option ℕ) → IsFirstSender x t r (links_of v.links) → r ≡ None → ⊥
-  finds_one went first A r sender none = go (names_in (nodes_of h) x) refl
-    where
-      left : HaveLeft (nodes_of h) h.links.departed
-      left = subst (λ (k : Held). HaveLeft (nodes_of k) k.links.departed) same went
-
-      nobody : IsFirstSender x t None (links_of h.links)
-      nobody = subst (λ (o : Option ℕ). IsFirstSender x t o (links_of h.links)) none (links_too r sender)
-
-      refused : (r : Option NamedRefusal) (why : AnyRefusal) → r ≡ None → r ≡ Some (Plain why) → ⊥
-      refused r why a b = cc (a, b)
-
-      go : (b : Bool) → names_in (nodes_of h) x ≡ b → ⊥
-      go false q = refused _ AnyRefusal.NoSuchNode A.accepted (refuses_sender h whole_too left x y first q)
-      go true q = by (with_older h.links.departed t) refl
-        where
-          s : (m : ℕ) × (set_of (nodes_of h) m ≡ true) × (name_of m ≡ x)
-          s = node_named (nodes_of h) x q
-
-          by : (b : Bool) → with_older h.links.departed t ≡ b → ⊥
-          by true e = refused _ AnyRefusal.NodeLeft A.accepted
-              (refuses_left h whole_too left x y t present_too reads_as s.0 s.1 s.2 nobody e)
-          by false e = refused _ AnyRefusal.EmptyLink A.accepted
-              (refuses_empty h whole_too left x y t present_too reads_as s.0 s.1 s.2 nobody e)

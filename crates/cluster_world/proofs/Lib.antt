@@ -19,6 +19,7 @@ pub mod Listed
 mod Steps
 mod Plays
 mod Taking
+mod Admissions
 mod Holding
 mod Deliveries
 mod Starting

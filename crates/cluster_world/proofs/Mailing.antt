@@ -5,26 +5,28 @@ use Rattle.std.specs.Option.{option_map}
 use Rattle.std.specs.List.{All, AllPairs}
 use Rattle.std.proofs.Math.Path.{fun_ext}
 use Rattle.std.proofs.lemmas.Bool.{cases_eq, cases_lt, eq-eqb, eqb-true, eqb-false, ne_eqb, and_parts, or_cases, or_left, or_right, false≢true}
-use Rattle.std.proofs.lemmas.List.{append-nil, map-append}
+use Rattle.std.proofs.lemmas.List.{append-nil, map-append, length-map, get_or-map, get_or_default}
 use Rattle.std.proofs.lemmas.List.Elements.{All-nil, All-cons, All-head, All-tail, All-append, All-drop, All-weaker, All-get_or, All-from_get_or, filter-append}
 use Rattle.std.proofs.lemmas.List.Quantifiers.{all_pairs_push}
 use Rattle.registry_model.specs.Process.{Nodes, with_node}
 use Rattle.protocol_model.specs.Links.{Links, no_letters, is_nil, posted, taken, closed_out}
 use Rattle.term.specs.Nodes.{IsFirst, name_of}
-use Rattle.term.specs.NodeSets.{set_of, names_in, with_older, succeeded}
+use Rattle.term.specs.NodeSets.{IsNodeSet, set_of, names_in, with_older, succeeded}
+use Rattle.term.proofs.NodePlaces.{place-Some}
 use Rattle.term.proofs.Older.{held, reached, first_alone, succeeded_is, succeeded_keeps}
 use Rattle.link.specs.declared.faults.LinkFault.{LinkFault}
 use Rattle.link.specs.declared.faults.LinkFault.TheVariants as on_link
-use Rattle.link.specs.Faults.{IsStranger, IsUndelivered}
-use Rattle.link.specs.Held.{Held as Mesh, WaitsFirst as FirstOfMesh, has, place, node_at, only_to, seen as on_mesh}
+use Rattle.link.specs.declared.link_place.LinkPlace.{LinkPlace}
+use Rattle.link.specs.Faults.{IsStranger}
+use Rattle.link.specs.Held.{Held as Mesh, WaitsFirst as FirstOfMesh, IsWithin, has, place, node_at, from_of, to_of, only_to, seen as on_mesh}
 use Rattle.link.specs.Reopening.{reopened}
-use Rattle.link.proofs.Places.{queue-stranger}
+use Rattle.link.proofs.Places.{place-get_or}
 use Rattle.node_core.specs.declared.Letter.{Letter}
 use Rattle.node_core.specs.Held.{HaveLeft, IsNext}
 use Rattle.node_core.proofs.Gone.{one_way}
-use Rattle.cluster_world.specs.Links.{SentLetter, Unsent, IsFirstSender, WaitsFirst}
+use Rattle.cluster_world.specs.Links.{SentLetter, Unsent, IsBetween, IsFirstSender, WaitsFirst}
 use Rattle.cluster_world.specs.Mail.{Mailed, IsSound, AreOwn, letters_of, on_links}
-use Rattle.cluster_world.proofs.Listed.{no_place}
+use Rattle.cluster_world.proofs.Listed.{known_place, no_place}
 
 -- a letter isn't of this node
 abbrev NotBy : ℕ → SentLetter → Type 0
@@ -529,6 +531,23 @@ place_known h sound i inside = (
     go (n ∷ ns) zero l = (or_left _ _ (eq-eqb (name_of n) (name_of n) refl), omega arith)
     go (n ∷ ns) (suc i) l = let r = go ns i (omega (arith, l)) in (or_right _ _ r.0, r.1)
 
+-- at the place of a node at present stands its name on the mesh
+pub name_stands : (h : Mailed) → IsSound h → (a i : ℕ) → place a h.nodes ≡ Some i
+    → (i < length h.mesh.nodes) × (node_at i h.mesh ≡ name_of a)
+name_stands h sound a i at =
+    let p = place-Some a h.nodes i at in (
+      omega (arith, p.0, ap (λ (ns : List ℕ). length ns) sound.names, length-map h.nodes name_of),
+      ap (λ (ns : List ℕ). get_or ns i 0) sound.names ∙ get_or-map name_of h.nodes i 0 0 p.0 ∙ ap name_of p.1,
+    )
+
+-- and so a link between nodes is there
+pub link_stands : (h : Mailed) → IsSound h → (k : LinkPlace) (x t : ℕ) → IsBetween k x t h.nodes
+    → IsWithin k h.mesh × (from_of k h.mesh ≡ x) × (to_of k h.mesh ≡ name_of t)
+link_stands h sound k x t are =
+    let s = name_stands h sound are.sender.0 k.sender are.sender.1 in
+    let r = name_stands h sound t k.receiver are.receiver in
+    ((s.0, r.0), s.1 ∙ are.sender.2, r.1)
+
 -- the first link on the mesh
 pub first_of_mesh : (h : Mailed) → IsSound h → (f0 t0 t : ℕ) (s : SentLetter) → FirstOfMesh (Some (f0, t0)) h.mesh
     → Some s ≡ slice_get ((on_mesh h.mesh).queue f0 t0) 0 → set_of h.nodes t ≡ true → name_of t ≡ t0
@@ -559,6 +578,56 @@ first_of_mesh h sound f0 t0 t s first front here named = go ((on_mesh h.mesh).qu
         lift x y (inl less) = inl (omega (arith, less, sender))
         lift x y (inr p) = inr (p.0 ∙ sender, let less = p.1 in omega (arith, less, named))
 
+-- a letter on a link is of a node of the link's name
+pub front_named : (h : Mailed) → IsSound h → (x y : ℕ) (s : SentLetter) → Some s ≡ slice_get ((on_mesh h.mesh).queue x y) 0
+    → name_of s.sender ≡ x
+front_named h sound x y s front = go ((on_mesh h.mesh).queue x y) (sound.named x y) front
+  where
+    some_is : (s r : SentLetter) → Some s ≡ Some r → s ≡ r
+    some_is s r e = cc
+
+    go : (q : List SentLetter) → All (IsOf h.nodes x) q → Some s ≡ slice_get q 0 → name_of s.sender ≡ x
+    go [] all e = cc
+    go (r ∷ q) all e = ap (λ (u : SentLetter). name_of u.sender) (some_is s r e) ∙ (All-head (IsOf h.nodes x) r q all).0
+
+-- what was copied of a place of these nodes stands there
+pub stands_there : (ns ms : List ℕ) (i a b : ℕ) → a ≡ b → b ≡ get_or ns i b → ns ≡ ms → a ≡ get_or ms i a
+stands_there ns ms i a b same is are = same ∙ is ∙ ap (λ (x : ℕ). get_or ns i x) (sym same)
+    ∙ ap (λ (xs : List ℕ). get_or xs i a) are
+
+-- so the link at these places is the one between its sender and the node that stands there
+pub link_of_front : (h : Mailed) → IsSound h → IsNodeSet h.nodes → (k : LinkPlace) → IsWithin k h.mesh → (s : SentLetter)
+    → Some s ≡ slice_get ((on_mesh h.mesh).queue (from_of k h.mesh) (to_of k h.mesh)) 0 → (t : ℕ)
+    → t ≡ get_or h.nodes k.receiver t → IsBetween k (name_of s.sender) t h.nodes
+link_of_front h sound set k within s front t at = record {
+  sender = (
+    get_or h.nodes k.sender 0,
+    place-get_or h.nodes k.sender set.rising from,
+    sym (name_stands h sound (get_or h.nodes k.sender 0) k.sender (place-get_or h.nodes k.sender set.rising from)).1
+        ∙ sym (front_named h sound (from_of k h.mesh) (to_of k h.mesh) s front),
+  );
+  receiver = ap (λ (a : ℕ). place a h.nodes) (at ∙ get_or_default h.nodes k.receiver t 0 to)
+      ∙ place-get_or h.nodes k.receiver set.rising to;
+}
+  where
+    long : length h.mesh.nodes ≡ length h.nodes
+    long = ap (λ (ns : List ℕ). length ns) sound.names ∙ length-map h.nodes name_of
+
+    from : k.sender < length h.nodes
+    from = omega (arith, within.0, long)
+
+    to : k.receiver < length h.nodes
+    to = omega (arith, within.1, long)
+
+-- the delivery of the first letter on the mesh
+pub first_delivery : (h : Mailed) → IsSound h → (k : LinkPlace) (s : SentLetter) (t : ℕ)
+    → FirstOfMesh (Some (from_of k h.mesh, to_of k h.mesh)) h.mesh
+    → Some s ≡ slice_get ((on_mesh h.mesh).queue (from_of k h.mesh) (to_of k h.mesh)) 0
+    → IsBetween k (name_of s.sender) t h.nodes → WaitsFirst (Some (s.sender, t)) (on_links h)
+first_delivery h sound k s t first front link =
+    first_of_mesh h sound (from_of k h.mesh) (to_of k h.mesh) t s first front (known_place h.nodes t k.receiver link.receiver)
+    (sym (name_stands h sound t k.receiver link.receiver).1)
+
 -- no letter waits where none stands on the mesh
 pub none_on_mesh : (h : Mailed) → FirstOfMesh None h.mesh → WaitsFirst None (on_links h)
 none_on_mesh h none = λ x y. nothing_at h.nodes h.departed (on_mesh h.mesh) x y (none (name_of x) (name_of y))
@@ -573,31 +642,7 @@ front_of h sound f t here first r e =
     ∙ ap (λ (ls : List Letter). slice_get ls 0) (sym (queue_at h.nodes h.departed (on_mesh h.mesh) f t here
     ∙ ap (λ (q : List SentLetter). letters_of f q) s.2 ∙ its_letter f s.0 s.1 s.3))
 
--- a delivery that fails takes nothing from a link on which a letter is
-pub delivered : (h : Mailed) → IsSound h → (f t : ℕ) → set_of h.nodes t ≡ true → IsFirstSender (name_of f) t (Some f) (on_links h)
-    → (k : Mesh SentLetter) (r : Result SentLetter LinkFault)
-    → OnOk r (on_mesh k ≡ taken (name_of f) (name_of t) (on_mesh h.mesh))
-    → IfErr r (λ fault. IsUndelivered fault (name_of f) (name_of t) h.mesh)
-    → on_mesh k ≡ taken (name_of f) (name_of t) (on_mesh h.mesh)
-delivered h sound f t here first k r ok err = go r ok err
-  where
-    stands_there : (on_mesh h.mesh).queue (name_of f) (name_of t) ≡ [] → ⊥
-    stands_there none = let s = in_front h.nodes h.departed (on_mesh h.mesh) sound.left (fits_of h sound) f t here first in
-        no_cons s.0 s.1 (sym s.2 ∙ none)
-      where
-        no_cons : (s : SentLetter) (ss : List SentLetter) → s ∷ ss ≡ [] → ⊥
-        no_cons s ss e = cc
-
-    go : (r : Result SentLetter LinkFault) → OnOk r (on_mesh k ≡ taken (name_of f) (name_of t) (on_mesh h.mesh))
-        → IfErr r (λ fault. IsUndelivered fault (name_of f) (name_of t) h.mesh)
-        → on_mesh k ≡ taken (name_of f) (name_of t) (on_mesh h.mesh)
-    go (Ok x) ok err = ok
-    go (Err on_link.NoSuchNode) ok err = absurd (stands_there (queue-stranger h.mesh (name_of f) (name_of t) err))
-    go (Err on_link.EmptyLink) ok err = absurd (stands_there err.1)
-    go (Err on_link.Full) ok err = absurd err
-    go (Err on_link.Memory) ok err = absurd err
-
--- nor does a call fail at the name of a node at present
+-- a call doesn't fail at the name of a node at present
 pub known_so : {A : Type 0} (h : Mailed) → IsSound h → (a : ℕ) → set_of h.nodes a ≡ true → (r : Result Unit LinkFault)
     → OnOk r A → IfErr r (λ fault. IsStranger fault (name_of a) h.mesh) → A
 known_so h sound a here (Ok x) ok err = ok

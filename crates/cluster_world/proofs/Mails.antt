@@ -1,29 +1,37 @@
 -- What a mail is behind each of its steps.
 use Rattle.std.proofs.Common.{ℕ, true, false, ◌≡◌, ◌<◌, Option, Some, None, List, [], ◌∷◌, length, map, refl, sym, ap, subst, ◌∙◌, inl, inr}
-use Rattle.std.specs.Prelude.{◌&&◌, ◌||◌, slice_get, Result, OnOk, IfErr, IfSome, if◌then◌else◌, ◌==◌}
+use Rattle.std.specs.Prelude.{◌&&◌, ◌||◌, is_none, slice_get, Result, OnOk, IfErr, IfSome, if◌then◌else◌, ◌==◌}
 use Rattle.std.specs.Option.{option_map}
 use Rattle.std.specs.List.{All}
 use Rattle.std.proofs.lemmas.List.Elements.{All-head, All-tail}
-use Rattle.std.proofs.lemmas.Bool.{cases_eq, eq-eqb, ne_eqb}
+use Rattle.std.proofs.lemmas.Bool.{cases_eq, eq-eqb, ne_eqb, false≢true}
 use Rattle.registry_model.specs.Process.{Nodes, with_node}
 use Rattle.protocol_model.specs.Links.{Links, is_nil, posted, taken, closed_out}
 use Rattle.term.specs.Nodes.{name_of}
 use Rattle.term.specs.NodeSets.{set_of, with_older, succeeded}
-use Rattle.term.proofs.NodePlaces.{place-Some}
 use Rattle.term.proofs.Older.{held}
 use Rattle.link.specs.declared.faults.LinkFault.{LinkFault}
-use Rattle.link.specs.Faults.{IsStranger, IsUndelivered}
-use Rattle.link.specs.Held.{Held as Mesh, only_to, place, node_at, seen as on_mesh}
+use Rattle.link.specs.Faults.{IsStranger}
+use Rattle.link.specs.declared.link_place.LinkPlace.{LinkPlace}
+use Rattle.link.specs.Held.{Held as Mesh, IsWithin, only_to, place, node_at, from_of, to_of, seen as on_mesh}
 use Rattle.link.specs.Reopening.{reopened}
 use Rattle.node_core.specs.declared.Letter.{Letter}
 use Rattle.node_core.specs.Held.{IsNext}
 use Rattle.node_core.proofs.Gone.{stands, told_is, left_too}
 use Rattle.node_core.proofs.Replacing.{left_then}
-use Rattle.cluster_world.specs.Links.{SentLetter, Unsent, letters_to, rest_as, earlier, with_unsent, IsFirstSender, IsLeastOpen, WaitsFirst}
+use Rattle.cluster_world.specs.declared.admission.Delivery.{Delivery}
+use Rattle.cluster_world.specs.Links.{SentLetter, Unsent, letters_to, rest_as, earlier, with_unsent, IsBetween, IsFirstSender, IsLeastOpen, WaitsFirst}
 use Rattle.cluster_world.specs.Mail.{Mailed, IsSound, AreOwn, on_links, links_of}
-use Rattle.cluster_world.proofs.Mailing.{Fits, IsOf, by_nodes, nothing_at, oldest_first, sender_started, fits_of, sound_of, fits_posted, posted_by, fits_taken, taken_by, fits_closed, closed_by, fits_reopened, reopened_by, delivered, known_so, front_of}
+use Rattle.cluster_world.proofs.Mailing.{Fits, IsOf, by_nodes, nothing_at, oldest_first, sender_started, fits_of, sound_of, fits_posted, posted_by, fits_taken, taken_by, fits_closed, closed_by, fits_reopened, reopened_by, name_stands, link_stands, known_so, front_of}
+use Rattle.cluster_world.proofs.Listed.{known_place}
 use Rattle.cluster_world.proofs.Outboxes.{closed_as, closed_behind, first_still, first_unsent, none_unsent, waits_with, rest_posts, shut_posts}
 use Rattle.cluster_world.proofs.Posting.{posted-cons}
+
+-- a link between nodes is on the mesh of a mail that contracts see as w
+pub link_there : (h : Mailed) → IsSound h → (w : Mailed) → h ≡ w → (k : LinkPlace) (x t : ℕ) → IsBetween k x t w.nodes
+    → IsWithin k h.mesh × (from_of k h.mesh ≡ x) × (to_of k h.mesh ≡ name_of t)
+link_there h sound w is k x t link =
+    link_stands h sound k x t (subst (λ (m : Mailed). IsBetween k x t m.nodes) (sym is) link)
 
 module _ (h : Mailed) (sound : IsSound h) where
   module _ (a r : ℕ) (l : Letter) (k : Mesh SentLetter) (here : set_of h.nodes a ≡ true) (started : with_older h.nodes r ≡ true)
@@ -40,27 +48,38 @@ module _ (h : Mailed) (sound : IsSound h) where
         ∙ posted_by h.nodes h.departed (on_mesh h.mesh) sound.left (fits_of h sound) a r l here
         (stands h.nodes h.departed r sound.left started stays)
 
-  module _ (f t : ℕ) (k : Mesh SentLetter) (result : Result SentLetter LinkFault) (here : set_of h.nodes t ≡ true)
-      (all : h.unsent ≡ None) (first : IsFirstSender (name_of f) t (Some f) (links_of h)) (same : k.nodes ≡ h.mesh.nodes)
-      (ok : OnOk result (on_mesh k ≡ taken (name_of f) (name_of t) (on_mesh h.mesh)))
-      (err : IfErr result (λ fault. IsUndelivered fault (name_of f) (name_of t) h.mesh)) where
-    on_its_link : IsFirstSender (name_of f) t (Some f) (on_links h)
-    on_its_link = subst (λ (u : Option Unsent). IsFirstSender (name_of f) t (Some f) (with_unsent u (on_links h))) all first
+  module _ (w : Mailed) (is : h ≡ w) (d : Delivery) (k : Mesh SentLetter) (all_sent : w.unsent ≡ None)
+      (link : IsBetween d.link (name_of d.sender) d.receiver w.nodes)
+      (first : IsFirstSender (name_of d.sender) d.receiver (Some d.sender) (links_of w)) (same : k.nodes ≡ h.mesh.nodes)
+      (took : on_mesh k ≡ taken (from_of d.link h.mesh) (to_of d.link h.mesh) (on_mesh h.mesh)) where
+    reader_here : set_of h.nodes d.receiver ≡ true
+    reader_here = subst (λ (m : Mailed). set_of m.nodes d.receiver ≡ true) (sym is) (known_place w.nodes d.receiver d.link.receiver link.receiver)
 
-    was_taken : on_mesh k ≡ taken (name_of f) (name_of t) (on_mesh h.mesh)
-    was_taken = delivered h sound f t here on_its_link k result ok err
+    all_there : h.unsent ≡ None
+    all_there = ap (λ (m : Mailed). m.unsent) is ∙ all_sent
+
+    was_taken : on_mesh k ≡ taken (name_of d.sender) (name_of d.receiver) (on_mesh h.mesh)
+    was_taken =
+        let l = link_there h sound w is d.link (name_of d.sender) d.receiver link in
+        took ∙ ap (λ (x : ℕ). taken x (to_of d.link h.mesh) (on_mesh h.mesh)) l.1
+        ∙ ap (λ (y : ℕ). taken (name_of d.sender) y (on_mesh h.mesh)) l.2
+
+    on_its_link : IsFirstSender (name_of d.sender) d.receiver (Some d.sender) (on_links h)
+    on_its_link = subst (λ (u : Option Unsent). IsFirstSender (name_of d.sender) d.receiver (Some d.sender) (with_unsent u (on_links h))) all_there
+        (subst (λ (m : Mailed). IsFirstSender (name_of d.sender) d.receiver (Some d.sender) (links_of m)) (sym is) first)
 
     -- the oldest letter was taken
     pub sound_taken : IsSound (record h { mesh = k })
     sound_taken = sound_of h.nodes h.departed k h.unsent sound.left (same ∙ sound.names)
         (subst (λ (w : Links SentLetter). Fits h.nodes h.departed w) (sym was_taken)
-        (fits_taken h.nodes h.departed (on_mesh h.mesh) sound.left (fits_of h sound) (name_of f) (name_of t))) sound.own
+        (fits_taken h.nodes h.departed (on_mesh h.mesh) sound.left (fits_of h sound) (name_of d.sender) (name_of d.receiver))) sound.own
 
-    pub links_taken : links_of (record h { mesh = k }) ≡ taken f t (links_of h)
-    links_taken = ap (λ (u : Option Unsent). with_unsent u (on_links (record h { mesh = k }))) all
+    pub links_taken : links_of (record h { mesh = k }) ≡ taken d.sender d.receiver (links_of w)
+    links_taken = ap (λ (u : Option Unsent). with_unsent u (on_links (record h { mesh = k }))) all_there
         ∙ ap (λ (w : Links SentLetter). by_nodes h.nodes h.departed w) was_taken
-        ∙ taken_by h.nodes h.departed (on_mesh h.mesh) sound.left (fits_of h sound) f t here on_its_link
-        ∙ ap (λ (u : Option Unsent). taken f t (with_unsent u (on_links h))) (sym all)
+        ∙ taken_by h.nodes h.departed (on_mesh h.mesh) sound.left (fits_of h sound) d.sender d.receiver reader_here on_its_link
+        ∙ ap (λ (u : Option Unsent). taken d.sender d.receiver (with_unsent u (on_links h))) (sym all_there)
+        ∙ ap (λ (m : Mailed). taken d.sender d.receiver (links_of m)) is
 
   module _ (d : ℕ) (more : List ℕ) (k : Mesh SentLetter) (result : Result Unit LinkFault) (here : set_of h.nodes d ≡ true)
       (same : k.nodes ≡ h.mesh.nodes) (ok : OnOk result (on_mesh k ≡ closed_out (name_of d) (on_mesh h.mesh)))
@@ -185,15 +204,23 @@ module _ (h : Mailed) (sound : IsSound h) where
       (sender_started h.nodes h.departed (on_mesh h.mesh) sound.left (fits_of h sound)) u
       (subst (λ (o : Option Unsent). IfSome o (AreOwn h.nodes)) all sound.own) first r on least)
 
--- the same of the letter that was found at the front
-pub letter_found : (h : Mailed) → IsSound h → (f t y z : ℕ) → y ≡ name_of f → z ≡ name_of t → set_of h.nodes t ≡ true → h.unsent ≡ None
-    → IsFirstSender (name_of f) t (Some f) (links_of h) → (r : Option SentLetter) → r ≡ slice_get ((on_mesh h.mesh).queue y z) 0
-    → option_map (λ (s : SentLetter). s.letter) r ≡ slice_get ((links_of h).queue f t) 0
-letter_found h sound f t y z from to here all first r e =
-    front_of h sound f t here (subst (λ (u : Option Unsent). IsFirstSender (name_of f) t (Some f) (with_unsent u (on_links h))) all first) r
-    (e ∙ ap (λ (v : ℕ). slice_get ((on_mesh h.mesh).queue v z) 0) from
-    ∙ ap (λ (v : ℕ). slice_get ((on_mesh h.mesh).queue (name_of f) v) 0) to)
-    ∙ ap (λ (u : Option Unsent). slice_get ((with_unsent u (on_links h)).queue f t) 0) (sym all)
+-- the letter that a delivery finds at the front of its link
+pub letter_found : (h : Mailed) → IsSound h → (w : Mailed) → h ≡ w → (d : Delivery) → w.unsent ≡ None
+    → IsBetween d.link (name_of d.sender) d.receiver w.nodes
+    → IsFirstSender (name_of d.sender) d.receiver (Some d.sender) (links_of w) → (r : Option SentLetter)
+    → r ≡ slice_get ((on_mesh h.mesh).queue (from_of d.link h.mesh) (to_of d.link h.mesh)) 0
+    → option_map (λ (s : SentLetter). s.letter) r ≡ slice_get ((links_of w).queue d.sender d.receiver) 0
+letter_found h sound w is d none link first r e =
+    let l = link_there h sound w is d.link (name_of d.sender) d.receiver link in
+    let all : h.unsent ≡ None = ap (λ (m : Mailed). m.unsent) is ∙ none in
+    front_of h sound d.sender d.receiver
+    (subst (λ (m : Mailed). set_of m.nodes d.receiver ≡ true) (sym is) (known_place w.nodes d.receiver d.link.receiver link.receiver))
+    (subst (λ (u : Option Unsent). IsFirstSender (name_of d.sender) d.receiver (Some d.sender) (with_unsent u (on_links h))) all
+    (subst (λ (m : Mailed). IsFirstSender (name_of d.sender) d.receiver (Some d.sender) (links_of m)) (sym is) first)) r
+    (e ∙ ap (λ (v : ℕ). slice_get ((on_mesh h.mesh).queue v (to_of d.link h.mesh)) 0) l.1
+    ∙ ap (λ (v : ℕ). slice_get ((on_mesh h.mesh).queue (name_of d.sender) v) 0) l.2)
+    ∙ ap (λ (u : Option Unsent). slice_get ((with_unsent u (on_links h)).queue d.sender d.receiver) 0) (sym all)
+    ∙ ap (λ (m : Mailed). slice_get ((links_of m).queue d.sender d.receiver) 0) is
 
 -- Amid the sending of a node's letters: what is left, behind what is on the links by now, makes of them what all the letters would
 -- have made of the links at first
@@ -222,13 +249,10 @@ module _ (a : ℕ) (w : Mailed) (ws : List (ℕ × Letter)) where
     links = ap (λ (h : Mailed). posted a (λ t. letters_to t ws) (on_links h)) is;
   }
 
-  -- the place of the sender's name stays
-  pub sending_place : (m : Mailed) (ls : List (ℕ × Letter)) → IsSending a w ws m ls → (v : Mailed) → v ≡ w → (x i : ℕ)
-      → x ≡ name_of a → place x v.mesh.nodes ≡ Some i → (i < length m.mesh.nodes) × (node_at i m.mesh ≡ name_of a)
-  sending_place m ls S v is x i at found =
-      place-Some (name_of a) m.mesh.nodes i
-      (ap (λ (ns : List ℕ). place (name_of a) ns) (S.names ∙ ap (λ (h : Mailed). h.mesh.nodes) (sym is))
-      ∙ ap (λ (y : ℕ). place y v.mesh.nodes) (sym at) ∙ found)
+  -- the sender's name stays at its place
+  pub sending_place : (m : Mailed) (ls : List (ℕ × Letter)) → IsSending a w ws m ls → (i : ℕ) → place a w.nodes ≡ Some i
+      → (i < length m.mesh.nodes) × (node_at i m.mesh ≡ name_of a)
+  sending_place m ls S i at = name_stands m S.sound a i (ap (place a) S.nodes ∙ at)
 
   module _ (m : Mailed) (ls rest : List (ℕ × Letter)) (r : ℕ) (l : Letter) (S : IsSending a w ws m ls)
       (are : ls ≡ (r, l) ∷ rest) where
@@ -286,11 +310,11 @@ module _ (a : ℕ) (w : Mailed) (ws : List (ℕ × Letter)) where
         (are ∙ ap (λ (x : Letter). (r, x) ∷ rest) (sym is) ∙ sym put) S)
 
 -- what was sent, and what is left of it in an outbox
-pub links_left : (h w : Mailed) (a : ℕ) (ls ws : List (ℕ × Letter)) (u : Option Unsent) → u ≡ rest_as a ls → w.unsent ≡ None
+pub links_left : (h w : Mailed) (p a : ℕ) (ls ws : List (ℕ × Letter)) (u : Option Unsent) → u ≡ rest_as p a ls → w.unsent ≡ None
     → posted a (λ t. letters_to t ls) (on_links h) ≡ posted a (λ t. letters_to t ws) (on_links w)
     → links_of (record h { unsent = u }) ≡ posted a (λ t. letters_to t ws) (links_of w)
-links_left h w a ls ws u is all posts =
-    ap (λ (o : Option Unsent). with_unsent o (on_links h)) is ∙ rest_posts a ls (on_links h) ∙ posts
+links_left h w p a ls ws u is all posts =
+    ap (λ (o : Option Unsent). with_unsent o (on_links h)) is ∙ rest_posts p a ls (on_links h) ∙ posts
     ∙ ap (λ (o : Option Unsent). posted a (λ t. letters_to t ws) (with_unsent o (on_links w))) (sym all)
 
 -- an outbox that is taken out, and posted
@@ -303,3 +327,11 @@ links_drained h u x none some =
 -- its letters are of a node at present
 pub outbox_own : (h : Mailed) → IsSound h → (x : Unsent) → h.unsent ≡ Some x → AreOwn h.nodes x
 outbox_own h sound x some = subst (λ (o : Option Unsent). IfSome o (AreOwn h.nodes)) some sound.own
+
+-- where nothing waits to be put there, what is on the links is all there is
+pub all_on_links : (h : Mailed) → is_none h.unsent ≡ true → on_links h ≡ links_of h
+all_on_links h e = go h.unsent e
+  where
+    go : (u : Option Unsent) → is_none u ≡ true → on_links h ≡ with_unsent u (on_links h)
+    go None e = refl
+    go (Some u) e = absurd (false≢true e)

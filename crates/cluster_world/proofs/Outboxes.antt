@@ -13,6 +13,7 @@ use Rattle.node_core.specs.declared.Letter.{Letter}
 use Rattle.node_core.specs.Held.{HaveLeft}
 use Rattle.cluster_world.specs.Links.{letters_to, Unsent, with_unsent, rest_as, IsFirstSender, WaitsFirst, IsLeastOpen, lesser, earlier}
 use Rattle.cluster_world.specs.Mail.{AreOwn}
+use Rattle.cluster_world.proofs.Listed.{known_place}
 use Rattle.cluster_world.proofs.Posting.{posted-nothing}
 use Rattle.cluster_world.proofs.Mailing.{at_most}
 
@@ -140,10 +141,10 @@ module _ (s : ℕ) (ss : List (ℕ × Letter)) (w : Links Letter) where
       go (l ∷ ls) ms e = refl
 
 -- letters that are left are those of an outbox
-pub rest_posts : (a : ℕ) (ls : List (ℕ × Letter)) (w : Links Letter)
-    → with_unsent (rest_as a ls) w ≡ posted a (λ t. letters_to t ls) w
-rest_posts a [] w = sym (posted-nothing a w)
-rest_posts a (l ∷ ls) w = refl
+pub rest_posts : (p a : ℕ) (ls : List (ℕ × Letter)) (w : Links Letter)
+    → with_unsent (rest_as p a ls) w ≡ posted a (λ t. letters_to t ls) w
+rest_posts p a [] w = sym (posted-nothing a w)
+rest_posts p a (l ∷ ls) w = refl
 
 -- a letter for one that has left posts nothing
 pub shut_posts : (a : ℕ) (s : ℕ × Letter) (ss : List (ℕ × Letter)) (w : Links Letter) → w.closed s.0 ≡ true
@@ -207,7 +208,7 @@ module _ (nodes departed : List ℕ) (left : HaveLeft nodes departed) where
     first.0,
     still_waits u.sender u.letters w f t first.1,
     λ g named less. still_nothing u.sender u.letters w g t (first.2 g named less)
-        (λ at up. absurd (let le = at_most nodes departed f u.sender left started own.sender
+        (λ at up. absurd (let le = at_most nodes departed f u.sender left started (known_place nodes u.sender u.place own.sender)
         (first.0 ∙ sym named ∙ ap name_of at) in omega (arith, le, less, at))),
   )
 

@@ -21,6 +21,7 @@ use Rattle.node_core.specs.declared.Answer.{Answer}
 use Rattle.world_events.specs.declared.events.WorldEvent.{WorldEvent}
 use Rattle.world_events.specs.declared.events.WorldEvent.TheVariants.{Deliver}
 use Rattle.world_events.specs.Events.{named_event}
+use Rattle.cluster_world.specs.declared.admission.Delivery.{Delivery}
 use Rattle.cluster_world.specs.Held.{Held, nodes_of}
 use Rattle.cluster_world.specs.Agreeing.{Agrees, IsRunOf}
 use Rattle.cluster_world.specs.Playing.{Keeps, Played, WaitsOn, events_of}
@@ -156,8 +157,13 @@ has_core h whole t p e =
     omega (arith, at_place.0, ap (λ (ns : List ℕ). length ns) whole.names, length-map h.cores core_name)
 
 -- and the protocol accepts the delivery
-pub has_next : (p f t : ℕ) (h : Held) → IsNextLetter p f t h → HasNext h
-has_next p f t h L = record { sender = name_of f; receiver = name_of t; next = L.next; accepted = L.admitted.accepted }
+pub has_next : (d : Delivery) (h : Held) → IsNextLetter d h → HasNext h
+has_next d h L = record {
+  sender = name_of d.sender;
+  receiver = name_of d.receiver;
+  next = L.next;
+  accepted = L.ready.admitted.accepted;
+}
 
 -- it doesn't matter how a world is held
 pub next_still : (old new : Held) → Keeps old new → named new ≡ named old → HasNext old → HasNext new

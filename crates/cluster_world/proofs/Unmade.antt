@@ -17,7 +17,9 @@ use Rattle.cluster_world.specs.Held.{Held}
 use Rattle.cluster_world.specs.Playing.{RefusedWith}
 use Rattle.cluster_world.specs.Seats.{IsWhyRefused, Unanswered, names_nodes, unmade}
 use Rattle.cluster_world.specs.Seen.{names_of, named}
-use Rattle.cluster_world.specs.Steps.{IsAdmitted}
+use Rattle.cluster_world.specs.declared.admission.Admission.{Admission}
+use Rattle.cluster_world.specs.Admissions.{event_by, IsFound}
+use Rattle.cluster_world.proofs.Admissions.{found_admitted}
 
 -- its own cause comes first
 pub unmade_call : (a : ℕ) (c : Call) (old : Held) (why : Option Refusal) → IsWhyRefused why (At a (Calls c)) old
@@ -33,13 +35,13 @@ module _ (b : ℕ) (p q : Process) (i j : LockId) (old : Held) (node : b ≡ p.n
       ∙ ap (λ (r : Process). named_refusal (names_of old) (named old) (named_event (At p.node (Calls (DelLock r j All))))) holder
       ∙ ap (λ (k : LockId). named_refusal (names_of old) (named old) (named_event (At p.node (Calls (DelLock p k All))))) id
 
-  pub deletion_asked : (r : Result ℕ Refusal) (why : Option Refusal) → why ≡ result_err r
-      → IfOk r (λ place. IsAdmitted place (At b (Calls (DelLock q j All))) old)
+  pub deletion_asked : (r : Result Admission Refusal) (why : Option Refusal) → why ≡ result_err r
+      → IfOk r (λ admission. IsFound admission old) → IfOk r (λ admission. event_by admission ≡ At b (Calls (DelLock q j All)))
       → IfErr r (λ refusal. RefusedWith refusal (At b (Calls (DelLock q j All))) old)
       → IsWhyRefused why (At p.node (Calls (DelLock p i ns))) old
-  deletion_asked (Ok k) why is admitted refused =
+  deletion_asked (Ok k) why is found event refused =
       subst (λ (w : Option Refusal). IsWhyRefused w (At p.node (Calls (DelLock p i ns))) old) (sym is)
-      (sym same ∙ admitted.accepted)
-  deletion_asked (Err r) why is admitted refused =
+      (sym same ∙ (found_admitted k old (At b (Calls (DelLock q j All))) found event).accepted)
+  deletion_asked (Err r) why is found event refused =
       subst (λ (w : Option Refusal). IsWhyRefused w (At p.node (Calls (DelLock p i ns))) old) (sym is)
       (sym same ∙ refused)

@@ -181,7 +181,7 @@ module _ (h : Held) (whole : IsWhole h) where
   module _ (went : HaveLeft (nodes_of h) h.links.departed) (a x p n : ℕ) (there : place a (nodes_of h) ≡ Some p)
       (same : name_of a ≡ x) (core : Core) (is : core ≡ get_or h.cores p core) (named_n : n ≡ core.name) where
     -- the core at the place is that of the name's node
-    is_node : n ≡ a
+    pub is_node : n ≡ a
     is_node = named_n ∙ named_so h whole a p core there is
 
     known_there : set_of (nodes_of h) a ≡ true

@@ -1,6 +1,6 @@
 -- The delivery that comes next, by where a letter waits first.
 use Rattle.std.proofs.Common.{ℕ, Bool, true, false, ◌≡◌, ◌<◌, ◌*◌, ◌^◌, Option, Some, None, List, [], ◌∷◌, map, refl, sym, ap, subst, ◌∙◌, arith, inl, inr}
-use Rattle.std.specs.Prelude.{if◌then◌else◌, not, ◌&&◌, ◌||◌, ◌⊎◌, nat_lt, is_none, option_map, find, flat_map, Contains}
+use Rattle.std.specs.Prelude.{if◌then◌else◌, not, ◌&&◌, ◌||◌, ◌⊎◌, nat_lt, is_none, option_map, find, flat_map, Contains, IfSome, MatchOption}
 use Rattle.std.specs.Option.{option_or}
 use Rattle.std.proofs.lemmas.Bool.{and_parts, ltb-true}
 use Rattle.std.proofs.lemmas.List.Concat.{flat_map_single}
@@ -30,7 +30,8 @@ use Rattle.world_events.specs.declared.events.WorldEvent.TheVariants.{Deliver as
 use Rattle.world_events.specs.Events.{named_event}
 use Rattle.cluster_world.specs.Held.{Held, nodes_of}
 use Rattle.cluster_world.specs.Whole.{IsWhole}
-use Rattle.cluster_world.specs.Links.{WaitsFirst}
+use Rattle.cluster_world.specs.declared.admission.Delivery.{Delivery}
+use Rattle.cluster_world.specs.Links.{IsBetween, WaitsFirst}
 use Rattle.cluster_world.specs.Mail.{links_of}
 use Rattle.cluster_world.specs.Openings.{is_named_in}
 use Rattle.cluster_world.specs.Playing.{WaitsOn}
@@ -224,18 +225,37 @@ module _ (h : Held) (whole : IsWhole h) (left : HaveLeft (nodes_of h) h.links.de
     waits_between : WaitsOn (Some (name_of f, name_of t)) h
     waits_between = next ∙ ap (λ (e : NamedEvent). let r : Option NamedEvent = Some e in r) by_names
 
-    -- so the receiver, which has a place, may read it
+    -- the receiver has a place, and so has the sender's name
     pub has_place : place t (nodes_of h) ≡ None → ⊥
     has_place e = cc (no_place (nodes_of h) t e, receiver)
 
-    pub first_letter : (p : ℕ) → place t (nodes_of h) ≡ Some p → IsNextLetter p f t h
-    first_letter p at = record {
+    pub has_sender : names_in (nodes_of h) (name_of f) ≡ false → ⊥
+    has_sender e = cc (has_name (nodes_of h) f sender, e)
+
+  -- so it may read the letter
+  pub first_letter : (d : Delivery) → WaitsFirst (Some (d.sender, d.receiver)) (links_of h.links)
+      → IsBetween d.link (name_of d.sender) d.receiver (nodes_of h) → IsNextLetter d h
+  first_letter d waits link = record {
+    ready = record {
+      link = link;
       first = waits.0;
-      receiver = at;
-      admitted = record { node = t; place = at; own = refl; accepted = free };
-      next = waits_between;
-    }
+      admitted = record {
+        node = d.receiver;
+        place = link.receiver;
+        own = refl;
+        accepted = free d.sender d.receiver waits;
+      };
+    };
+    next = waits_between d.sender d.receiver waits;
+  }
 
   -- no letter waits
   pub waits_nowhere : WaitsFirst None (links_of h.links) → WaitsOn None h
   waits_nowhere none = next_none o w (λ x y i j. nothing_on x y j (λ f t p q. none f t))
+
+  -- what was found, if anything was, is delivered next
+  pub next_found : (r : Option Delivery) → WaitsFirst (option_map (λ d. (d.sender, d.receiver)) r) (links_of h.links)
+      → IfSome r (λ d. IsBetween d.link (name_of d.sender) d.receiver (nodes_of h))
+      → MatchOption r (WaitsOn None h) (λ d. IsNextLetter d h)
+  next_found None waits link = waits_nowhere waits
+  next_found (Some d) waits link = first_letter d waits link

@@ -22,6 +22,7 @@ pub mod Seen
 pub mod Whole
 pub mod Restarting
 pub mod Steps
+pub mod Admissions
 pub mod Starting
 pub mod Playing
 pub mod Agreeing

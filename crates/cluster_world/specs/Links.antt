@@ -1,6 +1,8 @@
 -- Links whose letters are seen as others, letters that aren't on their links yet, and what may stand on a link.
 use Rattle.std.specs.Prelude.{ℕ, true, false, ◌==◌, ◌<◌, ◌≡◌, ◌&&◌, ◌||◌, ◌⊎◌, nat_le, nat_lt, Option, Some, None, List, [], ◌∷◌, map, filter, All, if◌then◌else◌}
 use Rattle.registry_model.specs.Process.{Nodes}
+use Rattle.link.specs.declared.link_place.LinkPlace.{LinkPlace}
+use Rattle.link.specs.Held.{place}
 use Rattle.protocol_model.specs.Links.{Links, is_nil, posted}
 use Rattle.term.specs.Nodes.{name_of}
 use Rattle.term.specs.NodeSets.{set_of, with_older}
@@ -20,8 +22,9 @@ pub record SentLetter : Type 0 where
   pub sender : ℕ
   pub letter : Letter
 
--- letters of a node with their receivers, in order, that aren't on their links yet
+-- letters of the node at a place with their receivers, in order, that aren't on their links yet
 pub record Unsent : Type 0 where
+  pub place : ℕ
   pub sender : ℕ
   pub letters : List (ℕ × Letter)
 
@@ -30,10 +33,15 @@ abbrev pub with_unsent : Option Unsent → Links Letter → Links Letter
 with_unsent None w = w
 with_unsent (Some u) w = posted u.sender (λ t. letters_to t u.letters) w
 
--- what is left of a node's letters, if anything is
-abbrev pub rest_as : ℕ → List (ℕ × Letter) → Option Unsent
-rest_as a [] = None
-rest_as a (l ∷ ls) = Some (record { sender = a; letters = l ∷ ls })
+-- what is left of the letters of node a, which stands at place p, if anything is
+abbrev pub rest_as : ℕ → ℕ → List (ℕ × Letter) → Option Unsent
+rest_as p a [] = None
+rest_as p a (l ∷ ls) = Some (record { place = p; sender = a; letters = l ∷ ls })
+
+-- where these nodes are at present, the link is the one from the nodes of name x to node t
+pub record IsBetween (k : LinkPlace) (x t : ℕ) (nodes : List ℕ) : Type 0 where
+  pub sender : (s : ℕ) × (place s nodes ≡ Some k.sender) × (name_of s ≡ x)
+  pub receiver : place t nodes ≡ Some k.receiver
 
 -- of the nodes of name x, the oldest one of which a letter waits for t, if one does
 abbrev pub IsFirstSender : ℕ → ℕ → Option ℕ → Links Letter → Type 0

@@ -1,10 +1,10 @@
 -- What is on the links of a world, and what was sent and isn't there yet.
-use Rattle.std.specs.Prelude.{ℕ, true, ◌==◌, ◌≡◌, ◌≤◌, Option, List, [], map, filter, AllPairs, IfSome, if◌then◌else◌}
+use Rattle.std.specs.Prelude.{ℕ, true, ◌==◌, ◌≡◌, ◌≤◌, Option, Some, List, [], map, filter, AllPairs, IfSome, if◌then◌else◌}
 use Rattle.std.specs.List.{All}
 use Rattle.protocol_model.specs.Links.{Links}
 use Rattle.term.specs.Nodes.{name_of}
 use Rattle.term.specs.NodeSets.{set_of, with_older}
-use Rattle.link.specs.Held.{Held as Mesh, seen as on_mesh}
+use Rattle.link.specs.Held.{Held as Mesh, place, seen as on_mesh}
 use Rattle.node_core.specs.Held.{HaveLeft}
 use Rattle.node_core.specs.declared.Letter.{Letter}
 use Rattle.cluster_world.specs.Links.{SentLetter, Unsent, with_unsent}
@@ -33,7 +33,7 @@ links_of m = with_unsent m.unsent (on_links m)
 
 -- these letters are of a node at present, to nodes that have started
 pub record AreOwn (nodes : List ℕ) (u : Unsent) : Type 0 where
-  pub sender : set_of nodes u.sender ≡ true
+  pub sender : place u.sender nodes ≡ Some u.place
   pub letters : All (λ s. with_older nodes s.0 ≡ true) u.letters
 
 -- The letters on the link from a name are of nodes of it that have started, and those of older ones come first; on links towards a name

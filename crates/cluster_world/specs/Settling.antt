@@ -14,22 +14,18 @@ use Rattle.world_events.specs.declared.events.WorldEvent.TheVariants.{Deliver}
 use Rattle.world_events.specs.Events.{named_event}
 use Rattle.cluster_world.specs.Agreeing.{IsRunOf, Agrees}
 use Rattle.term.specs.Nodes.{name_of}
-use Rattle.link.specs.Held.{place}
-use Rattle.cluster_world.specs.Held.{Held, nodes_of}
-use Rattle.cluster_world.specs.Links.{IsFirstSender}
-use Rattle.cluster_world.specs.Mail.{links_of}
-use Rattle.cluster_world.specs.Steps.{IsAdmitted}
+use Rattle.cluster_world.specs.declared.admission.Delivery.{Delivery}
+use Rattle.cluster_world.specs.Admissions.{IsReady}
+use Rattle.cluster_world.specs.Held.{Held}
 use Rattle.cluster_world.specs.Leftovers.{LeavesNothing}
 use Rattle.cluster_world.specs.Locks.{LocksBehind}
 use Rattle.cluster_world.specs.Playing.{Played, WentThrough, WaitsOn, events_of}
 use Rattle.cluster_world.specs.Seen.{names_of, opening_of, seen, named}
 
--- the letter that is delivered next: node f sent it, and node t, which stands at this place, is to read it
-pub record IsNextLetter (p f t : ℕ) (h : Held) : Type 0 where
-  pub first : IsFirstSender (name_of f) t (Some f) (links_of h.links)
-  pub receiver : place t (nodes_of h) ≡ Some p
-  pub admitted : IsAdmitted p (Deliver (name_of f) (name_of t)) h
-  pub next : WaitsOn (Some (name_of f, name_of t)) h
+-- the delivery is the one that is made next
+pub record IsNextLetter (d : Delivery) (h : Held) : Type 0 where
+  pub ready : IsReady d h
+  pub next : WaitsOn (Some (name_of d.sender, name_of d.receiver)) h
 
 -- `settle` makes a delivery next, from name to name, which the protocol accepts
 pub record HasNext (h : Held) : Type 0 where

@@ -1,6 +1,7 @@
 //! The world: up to eight nodes with their links, which plays events one by one, in every order of deliveries.
 #![tactic(auto)]
 
+mod admission;
 mod history;
 pub mod laws;
 mod mail;
@@ -16,7 +17,7 @@ pub use seat::{SeatFault, WorldSeat};
 pub use settle::Interrupted;
 pub use world::World;
 pub use world_events::{
-    Answer, Call, CoreEvent, Event, Letter, Look, NameCall, NameList, NodeCore, Nodes, Notice,
-    NoticeList, Opening, Refusal, Reply, Retries, StartFault, StepFault, WorldEvent,
+    Answer, Call, Event, Letter, Look, NameCall, NameList, NodeCore, Nodes, Notice, NoticeList,
+    Opening, Refusal, Reply, Retries, StartFault, StepFault, WorldEvent,
 };
 pub use world_history::{HistoryEntry, KeptEntry};

@@ -1,15 +1,17 @@
 //! What is on the links of a world, and what was sent and isn't there yet.
-ghost use Rattle.std.specs.Prelude.{◌≡◌, true, false, not, None, Some, [], OnOk, IfOk, MatchOption};
+ghost use Rattle.std.specs.Prelude.{◌≡◌, true, false, not, is_none, None, Some, [], OnOk, IfOk, IfSome, MatchOption, option_map};
 ghost use Rattle.std.specs.List.{All, slice_get};
 ghost use Rattle.std.specs.Option.{option_copied};
 ghost use Rattle.protocol_model.specs.Links.{no_letters, is_nil, posted, taken, closed_out};
 ghost use Rattle.term.specs.Nodes.{IsFirst, name_of};
 ghost use Rattle.term.specs.NodeSets.{set_of, names_in, with_older, succeeded};
 ghost use Rattle.cluster_world.specs.NodeCoreHeld.{HaveLeft, IsNext};
-ghost use Rattle.cluster_world.specs.Links.{letters_to, rest_as, lesser, earlier, IsFirstSender, IsLeastOpen, WaitsFirst};
+ghost use Rattle.cluster_world.specs.Links.{letters_to, rest_as, lesser, earlier, IsBetween, IsFirstSender, IsLeastOpen, WaitsFirst};
 ghost use Rattle.cluster_world.specs.Mail.{on_links, links_of};
+ghost use Rattle.link.specs.Held.{place as place_in};
 
-use link::Mesh;
+use crate::admission::Delivery;
+use link::{LinkPlace, Mesh};
 use std::alloc::{AllocError, Global};
 use std::collections::VecDeque;
 use std::marker::Model;
@@ -35,6 +37,8 @@ impl Model for Sent {
 /// Letters that a node has sent and that memory on their links was refused for, in their order, with their receivers.
 #[derive(Drop)]
 pub(crate) struct Outbox {
+    /// The place of the sender among the nodes at present.
+    place: usize,
     sender: Node,
     letters: Vec<(Node, Letter)>,
 }
@@ -44,7 +48,7 @@ impl Model for Outbox {
 
     ghost Value = { Unsent };
 
-    ghost view = { λ o. record { sender = o.sender; letters = o.letters.items } };
+    ghost view = { λ o. record { place = o.place; sender = o.sender; letters = o.letters.items } };
 }
 
 /// The links between the nodes of a world: a mesh of their names, and what the last step sent that isn't on it yet. Whoever looks at a
@@ -77,9 +81,9 @@ fn on_mesh(node: &Node) -> Node
     Node::first(node.name().copy())
 }
 
-/// Takes what is left of a node's letters, if anything is.
-fn rest_of(sender: &Node, letters: &mut VecDeque<(Node, Letter)>) -> Option<Outbox>
-    ensures { result ≡ rest_as sender.now letters.old.items }
+/// Takes what is left of the letters of the node at this place, if anything is.
+fn rest_of(place: usize, sender: &Node, letters: &mut VecDeque<(Node, Letter)>) -> Option<Outbox>
+    ensures { result ≡ rest_as place sender.now letters.old.items }
 {
     if letters.is_empty() {
         return None;
@@ -87,6 +91,7 @@ fn rest_of(sender: &Node, letters: &mut VecDeque<(Node, Letter)>) -> Option<Outb
     let alloc: Global = *letters.allocator();
     let rest = mem::replace(letters, VecDeque::new(alloc));
     Some(Outbox {
+        place,
         sender: sender.copy(),
         letters: Vec::from(rest),
     })
@@ -128,6 +133,14 @@ fn lesser(first: Option<Node>, node: &Node) -> Node
         Some(first) if first <= *node => first,
         _ => node.copy(),
     }
+}
+
+/// The ends of the link of a delivery, if there is one.
+fn ends_of(delivery: Option<Delivery>) -> Option<(Node, Node)>
+    ensures { result ≡ option_map (λ d. (d.sender, d.receiver)) delivery }
+{
+    let delivery = delivery?;
+    Some((delivery.sender, delivery.receiver))
 }
 
 /// The earlier of two links, by the names of sender and then receiver, of which there may be none.
@@ -204,16 +217,18 @@ impl Mail {
         self.departed.reaches(node)
     }
 
-    /// Which node of this name has sent the oldest letter that waits for a node at present, if one does.
-    pub(crate) fn first_sender(&self, name: &NodeName, receiver: &Node) -> Option<Node>
-        requires { set_of self.now.nodes receiver.now ≡ true }
+    /// Which node of this name has sent the oldest letter that waits for a node at present, if one does, where that is their link.
+    pub(crate) fn first_sender(
+        &self,
+        link: LinkPlace,
+        name: &NodeName,
+        receiver: &Node,
+    ) -> Option<Node>
+        requires { IsBetween link name.now receiver.now self.now.nodes }
         ensures first { IsFirstSender name.now receiver.now result (links_of self.now) }
         ensures left { HaveLeft self.now.nodes self.now.departed }
     {
-        if let Some(oldest) = self
-            .mesh
-            .front(&Node::first(name.copy()), &on_mesh(receiver))
-        {
+        if let Some(oldest) = self.mesh.front_at(link) {
             return Some(oldest.sender.copy());
         }
         let Some(outbox) = &self.unsent else {
@@ -231,34 +246,45 @@ impl Mail {
         ensures { WaitsFirst result (links_of self.now) }
     {
         let Some(outbox) = &self.unsent else {
-            return self.first_on_mesh();
+            return ends_of(self.first_on_mesh());
         };
         earlier(
-            self.first_on_mesh(),
+            ends_of(self.first_on_mesh()),
             &outbox.sender,
             outbox.first_receiver(&self.departed),
         )
     }
 
-    /// The same of the letters that are on their links.
-    fn first_on_mesh(&self) -> Option<(Node, Node)>
-        ensures { WaitsFirst result (on_links self.now) }
+    /// Whether all letters are on their links.
+    pub(crate) fn is_drained(&self) -> bool
+        ensures { result ≡ is_none self.now.unsent }
     {
-        let link = self.mesh.first_link()?;
-        let (_, to) = self.mesh.ends(link);
-        let from = self.mesh.front_at(link)?.sender.copy();
-        let receiver = self.present(to.name())?;
-        Some((from, receiver.copy()))
+        self.unsent.is_none()
     }
 
-    /// The oldest letter on the link from a name, which this node of it has sent, to a node at present; all letters are on their links.
-    pub(crate) fn front(&self, sender: &Node, receiver: &Node) -> Option<&Letter>
-        requires all { self.now.unsent ≡ None }
-        requires present { set_of self.now.nodes receiver.now ≡ true }
-        requires first { IsFirstSender (name_of sender.now) receiver.now (Some sender.now) (links_of self.now) }
-        ensures { option_copied result ≡ slice_get ((links_of self.now).queue sender.now receiver.now) 0 }
+    /// The delivery of the first of the letters that are on their links, by the names of their senders and then of their receivers.
+    pub(crate) fn first_on_mesh(&self) -> Option<Delivery>
+        ensures first { WaitsFirst (option_map (λ d. (d.sender, d.receiver)) result) (on_links self.now) }
+        ensures link { IfSome result (λ d. IsBetween d.link (name_of d.sender) d.receiver self.now.nodes) }
     {
-        let oldest = self.mesh.front(&on_mesh(sender), &on_mesh(receiver))?;
+        let link = self.mesh.first_link()?;
+        let sender = self.mesh.front_at(link)?.sender.copy();
+        let receiver = self.nodes.as_slice()[link.receiver].copy();
+        Some(Delivery {
+            link,
+            sender,
+            receiver,
+        })
+    }
+
+    /// The letter that a delivery takes; all letters are on their links.
+    pub(crate) fn front(&self, delivery: &Delivery) -> Option<&Letter>
+        requires all { self.now.unsent ≡ None }
+        requires link { IsBetween delivery.now.link (name_of delivery.now.sender) delivery.now.receiver self.now.nodes }
+        requires first { IsFirstSender (name_of delivery.now.sender) delivery.now.receiver (Some delivery.now.sender) (links_of self.now) }
+        ensures { option_copied result ≡ slice_get ((links_of self.now).queue delivery.now.sender delivery.now.receiver) 0 }
+    {
+        let oldest = self.mesh.front_at(delivery.link)?;
         Some(&oldest.letter)
     }
 
@@ -273,30 +299,30 @@ impl Mail {
         let Some(mut outbox) = self.unsent.take() else {
             return Ok(());
         };
-        self.post(&outbox.sender, &mut outbox.letters);
+        self.post(outbox.place, &outbox.sender, &mut outbox.letters);
         match &self.unsent {
             Some(_) => Err(AllocError),
             None => Ok(()),
         }
     }
 
-    /// Takes the oldest letter off the link from a name, which this node of it has sent, to a node at present. It takes no memory.
-    pub(crate) fn take(&mut self, sender: &Node, receiver: &Node)
+    /// Takes the letter of a delivery off its link. It takes no memory.
+    pub(crate) fn take(&mut self, delivery: &Delivery)
         requires all { self.old.unsent ≡ None }
-        requires present { set_of self.old.nodes receiver.now ≡ true }
-        requires first { IsFirstSender (name_of sender.now) receiver.now (Some sender.now) (links_of self.old) }
+        requires link { IsBetween delivery.now.link (name_of delivery.now.sender) delivery.now.receiver self.old.nodes }
+        requires first { IsFirstSender (name_of delivery.now.sender) delivery.now.receiver (Some delivery.now.sender) (links_of self.old) }
         ensures nodes { self.new.nodes ≡ self.old.nodes }
         ensures departed { self.new.departed ≡ self.old.departed }
-        ensures links { links_of self.new ≡ taken sender.now receiver.now (links_of self.old) }
+        ensures links { links_of self.new ≡ taken delivery.now.sender delivery.now.receiver (links_of self.old) }
         ensures all { self.new.unsent ≡ None }
     {
-        let _ = self.mesh.deliver(&on_mesh(sender), &on_mesh(receiver));
+        let _ = self.mesh.take_at(delivery.link);
     }
 
-    /// Puts letters of a node at present at the back of the links to their receivers, in order, and takes them out of the list. Those
-    /// that memory is refused for stay there; what goes to one that has left vanishes.
-    fn send_all(&mut self, sender: &Node, letters: &mut VecDeque<(Node, Letter)>)
-        requires sender { set_of self.old.nodes sender.now ≡ true }
+    /// Puts letters of the node at this place at the back of the links to their receivers, in order, and takes them out of the list.
+    /// Those that memory is refused for stay there; what goes to one that has left vanishes.
+    fn send_all(&mut self, place: usize, sender: &Node, letters: &mut VecDeque<(Node, Letter)>)
+        requires sender { place_in sender.now self.old.nodes ≡ Some place }
         requires within { All (λ s. with_older self.old.nodes s.0 ≡ true) letters.old.items }
         ensures nodes { self.new.nodes ≡ self.old.nodes }
         ensures departed { self.new.departed ≡ self.old.departed }
@@ -305,9 +331,6 @@ impl Mail {
         ensures links { posted sender.now (λ t. letters_to t letters.new.items) (on_links self.new)
             ≡ posted sender.now (λ t. letters_to t letters.old.items) (on_links self.old) }
     {
-        let Some(place) = self.mesh.place(&on_mesh(sender)) else {
-            return;
-        };
         while let Some((receiver, letter)) = letters.pop_front() {
             if self.departed.reaches(&receiver) {
                 continue;
@@ -323,11 +346,11 @@ impl Mail {
         }
     }
 
-    /// Puts each of these letters at the back of the link to its receiver. Those that memory is refused for are kept until there is
-    /// some: nothing is refused, and no letter is lost. The memory of the list stays its own where it can.
-    pub(crate) fn post(&mut self, sender: &Node, letters: &mut Vec<(Node, Letter)>)
+    /// Puts each of these letters of the node at this place at the back of the link to its receiver. Those that memory is refused for
+    /// are kept until there is some: nothing is refused, and no letter is lost. The memory of the list stays its own where it can.
+    pub(crate) fn post(&mut self, place: usize, sender: &Node, letters: &mut Vec<(Node, Letter)>)
         requires all { self.old.unsent ≡ None }
-        requires sender { set_of self.old.nodes sender.now ≡ true }
+        requires sender { place_in sender.now self.old.nodes ≡ Some place }
         requires within { All (λ s. with_older self.old.nodes s.0 ≡ true) letters.old.items }
         ensures nodes { self.new.nodes ≡ self.old.nodes }
         ensures departed { self.new.departed ≡ self.old.departed }
@@ -335,8 +358,8 @@ impl Mail {
     {
         let alloc: Global = *letters.allocator();
         let mut waiting = VecDeque::from(mem::replace(letters, Vec::new(alloc)));
-        self.send_all(sender, &mut waiting);
-        self.unsent = rest_of(sender, &mut waiting);
+        self.send_all(place, sender, &mut waiting);
+        self.unsent = rest_of(place, sender, &mut waiting);
         *letters = Vec::from(waiting);
     }
 

@@ -189,9 +189,9 @@ fn begin<N: Names<Memory = Global>>(
     ensures played { IfOk result (λ answers. Played event.now world.old world.new [] answers.items) }
     ensures unplayed { IfErr result (λ fault. IsUnplayed event.now world.old world.new fault) }
 {
-    let place = world.admit(event)?;
+    let admission = world.admit(event)?;
     replies.reserve(1)?;
-    Ok(world.accept(place, event)?)
+    Ok(world.accept(admission)?)
 }
 
 /// The seat of one lock holder over a world. A call at it is played at the holder's node, and then the world goes on until the

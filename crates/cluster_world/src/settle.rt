@@ -45,11 +45,11 @@ impl<N: Names<Memory = Global>> World<N> {
         ensures as_before { OnErr result (named self.new ≡ named self.old) }
         ensures unanswered { OnErr result (answers.new.items ≡ answers.old.items) }
     {
-        let Some((place, sender, receiver)) = self.next_letter() else {
+        let Some(delivery) = self.next_letter() else {
             return Ok(false);
         };
-        answers.reserve(self.cores[place].most_answers())?;
-        let mut given = self.read(place, &sender, &receiver)?;
+        answers.reserve(self.cores[delivery.link.receiver].most_answers())?;
+        let mut given = self.read(&delivery)?;
         let _ = answers.append(&mut given);
         Ok(true)
     }

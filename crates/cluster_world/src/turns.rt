@@ -1,9 +1,9 @@
 //! How a world takes in what a step of a node has made.
-ghost use Rattle.std.specs.Prelude.{◌≡◌, ◌≤◌, ◌-◌, ◌^◌, ◌++◌, length, map, min, None};
-ghost use Rattle.std.specs.Prelude.{true};
+ghost use Rattle.std.specs.Prelude.{◌≡◌, ◌≤◌, ◌-◌, ◌^◌, ◌++◌, length, map, min, true, None, Some};
 ghost use Rattle.std.specs.List.{All};
 ghost use Rattle.protocol_model.specs.Links.{posted};
-ghost use Rattle.term.specs.NodeSets.{set_of, with_older};
+ghost use Rattle.term.specs.NodeSets.{with_older};
+ghost use Rattle.link.specs.Held.{place as place_in};
 ghost use Rattle.node_core.specs.NodeEventsSeen.{entry_by};
 ghost use Rattle.world_history.specs.Histories.{entries_of};
 ghost use Rattle.cluster_world.specs.Histories.{number_at};
@@ -18,10 +18,12 @@ use term::Node;
 use world_events::{Answer, NodeCore, Turn};
 use world_history::History;
 
-/// Puts the letters of a node's step on their links, and its entries, where the node had the join `own` before the step, at the end of
-/// the history. Gives its answers, and the memory of the others for a later step. It takes no memory that can be refused.
+/// Puts the letters of a step of the node at this place on their links, and its entries, where the node had the join `own` before the
+/// step, at the end of the history. Gives its answers, and the memory of the others for a later step. It takes no memory that can be
+/// refused.
 pub(crate) fn take_in<N: Names<Memory = Global>>(
     turn: Turn,
+    place: usize,
     node: &Node,
     own: u32,
     cores: &[NodeCore<N>],
@@ -29,7 +31,7 @@ pub(crate) fn take_in<N: Names<Memory = Global>>(
     history: &mut History,
 ) -> (Vec<Answer>, Turn)
     requires sent { links.old.unsent ≡ None }
-    requires node { set_of links.old.nodes node.now ≡ true }
+    requires node { place_in node.now links.old.nodes ≡ Some place }
     requires within { All (λ s. with_older links.old.nodes s.0 ≡ true) turn.letters }
     requires room { min (2 ^ 64 - 1) (length turn.entries) ≤ history.old.room }
     ensures nodes { links.new.nodes ≡ links.old.nodes }
@@ -45,7 +47,7 @@ pub(crate) fn take_in<N: Names<Memory = Global>>(
         answers,
     } = turn;
     let alloc: Global = *answers.allocator();
-    links.post(node, &mut letters);
+    links.post(place, node, &mut letters);
     enter_all(history, &mut entries, cores, node, own);
     let spare = Turn {
         letters,

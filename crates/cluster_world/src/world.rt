@@ -9,10 +9,12 @@ ghost use Rattle.cluster_world.specs.Mail.{links_of};
 ghost use Rattle.cluster_world.specs.Restarting.{CanReplace, replaced_in};
 ghost use Rattle.cluster_world.specs.Seen.{is_holding};
 
+use crate::admission::{Admission, Comeback, Delivery};
 use crate::history::join_of;
 use crate::mail::Mail;
 use crate::run_end::RunEnd;
 use crate::turns::take_in;
+use link::LinkPlace;
 use name_table::Names;
 use past::Log;
 use std::alloc::{AllocError, Global};
@@ -99,6 +101,7 @@ fn enter_restart(
     ensures nodes { links.new.nodes ≡ links.old.nodes }
     ensures departed { links.new.departed ≡ links.old.departed }
     ensures links { links_of links.new ≡ links_of links.old }
+    ensures left { HaveLeft links.old.nodes links.old.departed }
     ensures all { OnOk result (links.new.unsent ≡ None) }
     ensures entered { OnOk result (history.new.entries ≡ history.old.entries ++ HistoryEntry.Restart next.now ∷ []) }
     ensures unchanged { OnErr result (history.new.entries ≡ history.old.entries) }
@@ -166,7 +169,7 @@ impl<N: Names<Memory = Global>> World<N> {
     ghost use Rattle.cluster_world.specs.Held.{nodes_of};
     ghost use Rattle.cluster_world.specs.Whole.{IsWhole};
     ghost use Rattle.cluster_world.specs.Cores.{core_of};
-    ghost use Rattle.cluster_world.specs.Links.{IsFirstSender};
+    ghost use Rattle.cluster_world.specs.Admissions.{delivered_by, event_by, place_by, IsFound, IsReady, MayStart};
     ghost use Rattle.cluster_world.specs.Seen.{names_of, opening_of, seen, named};
     ghost use Rattle.world_events.specs.declared.events.Event.{Event as NodeEvent};
     ghost use Rattle.world_events.specs.Events.{knows_contact};
@@ -217,26 +220,32 @@ impl<N: Names<Memory = Global>> World<N> {
         }
     }
 
-    /// The place of the node that reads the oldest letter of the link from name to name, or why the delivery is refused. It takes no
-    /// memory.
-    fn admit_delivery(&self, sender: &NodeName, receiver: &NodeName) -> Result<usize, Refusal>
-        ensures ok { IfOk result (λ place. IsAdmitted place (WorldEvent.Deliver sender.now receiver.now) self.now) }
+    /// The delivery of the oldest letter of the link from name to name, or why it is refused. It takes no memory.
+    fn admit_delivery(&self, sender: &NodeName, receiver: &NodeName) -> Result<Delivery, Refusal>
+        ensures ok { IfOk result (λ delivery. IsReady delivery self.now) }
+        ensures event { IfOk result (λ delivery. delivered_by delivery ≡ WorldEvent.Deliver sender.now receiver.now) }
         ensures refused { IfErr result (λ refusal. RefusedWith refusal (WorldEvent.Deliver sender.now receiver.now) self.now) }
     {
         // What holds of any world is known from here on.
         let _ = &self.cluster;
-        let (Some(_), Some(place)) = (self.place_of(sender), self.place_of(receiver)) else {
+        let (Some(from), Some(to)) = (self.place_of(sender), self.place_of(receiver)) else {
             return Err(Refusal::NoSuchNode);
         };
-        let node = self.cores[place].node();
+        let link = LinkPlace {
+            sender: from,
+            receiver: to,
+        };
+        let node = self.cores[to].node();
         // Letters wait for no node that has left.
-        if self.links.first_sender(sender, node).is_some() {
-            return Ok(place);
+        match self.links.first_sender(link, sender, node) {
+            Some(sender) => Ok(Delivery {
+                link,
+                sender,
+                receiver: node.copy(),
+            }),
+            None if self.links.has_left(node) => Err(Refusal::NodeLeft),
+            None => Err(Refusal::EmptyLink),
         }
-        if self.links.has_left(node) {
-            return Err(Refusal::NodeLeft);
-        }
-        Err(Refusal::EmptyLink)
     }
 
     /// The first of the running nodes that wasn't told that a node has left.
@@ -251,9 +260,10 @@ impl<N: Names<Memory = Global>> World<N> {
         None
     }
 
-    /// The place of the node of a name that comes back, or why that is refused. It takes no memory.
-    fn admit_restart(&self, name: &NodeName) -> Result<usize, Refusal>
-        ensures ok { IfOk result (λ place. IsAdmitted place (WorldEvent.Restart name.now) self.now) }
+    /// What a name comes back as, or why that is refused. It takes no memory.
+    fn admit_restart(&self, name: &NodeName) -> Result<Comeback, Refusal>
+        ensures ok { IfOk result (λ comeback. MayStart comeback self.now) }
+        ensures event { IfOk result (λ comeback. name_of comeback.older ≡ name.now) }
         ensures refused { IfErr result (λ refusal. RefusedWith refusal (WorldEvent.Restart name.now) self.now) }
     {
         let Some(place) = self.place_of(name) else {
@@ -267,7 +277,11 @@ impl<N: Names<Memory = Global>> World<N> {
             return Err(Refusal::NotToldYet(untold.copy()));
         }
         match node.next() {
-            Some(_) => Ok(place),
+            Some(next) => Ok(Comeback {
+                place,
+                older: node.copy(),
+                next,
+            }),
             None => Err(Refusal::CreationsSpent),
         }
     }
@@ -286,15 +300,20 @@ impl<N: Names<Memory = Global>> World<N> {
         nodes.position(node)
     }
 
-    /// The place of the node that an event is played at, or why the event is refused. It takes no memory.
-    pub(crate) fn admit(&self, event: &WorldEvent) -> Result<usize, Refusal>
-        ensures ok { IfOk result (λ place. IsAdmitted place event.now self.now) }
+    /// What an event is played as, or why it is refused. It takes no memory.
+    pub(crate) fn admit<'a>(&self, event: &'a WorldEvent) -> Result<Admission<'a>, Refusal>
+        ensures ok { IfOk result (λ admission. IsFound admission self.now) }
+        ensures event { IfOk result (λ admission. event_by admission ≡ event.now) }
         ensures refused { IfErr result (λ refusal. RefusedWith refusal event.now self.now) }
     {
         match event {
-            WorldEvent::At(node, event) => self.admit_own(node, event),
-            WorldEvent::Deliver(sender, receiver) => self.admit_delivery(sender, receiver),
-            WorldEvent::Restart(name) => self.admit_restart(name),
+            WorldEvent::At(node, event) => {
+                Ok(Admission::Own(self.admit_own(node, event)?, node, event))
+            }
+            WorldEvent::Deliver(sender, receiver) => {
+                Ok(Admission::Deliver(self.admit_delivery(sender, receiver)?))
+            }
+            WorldEvent::Restart(name) => Ok(Admission::Restart(self.admit_restart(name)?)),
         }
     }
 
@@ -320,6 +339,7 @@ impl<N: Names<Memory = Global>> World<N> {
         let turn = core.accept(event.cause(), spare)?;
         let (answers, spare) = take_in(
             turn,
+            place,
             node,
             own,
             &self.cores,
@@ -333,35 +353,29 @@ impl<N: Names<Memory = Global>> World<N> {
         Ok(answers)
     }
 
-    /// The node at this place reads the oldest letter on the link from a name, which this sender has sent, and which is taken off it.
-    /// Where memory is refused, nothing has happened.
-    pub(crate) fn read(
-        &mut self,
-        place: usize,
-        sender: &Node,
-        receiver: &Node,
-    ) -> Result<Vec<Answer>, AllocError>
-        requires first { IsFirstSender (name_of sender.now) receiver.now (Some sender.now) (links_of self.old.links) }
-        requires receiver { place_in receiver.now (nodes_of self.old) ≡ Some place }
-        requires admitted { IsAdmitted place (WorldEvent.Deliver (name_of sender.now) (name_of receiver.now)) self.old }
+    /// Makes a delivery: its receiver reads the letter, which is taken off its link. Where memory is refused, nothing has happened.
+    pub(crate) fn read(&mut self, delivery: &Delivery) -> Result<Vec<Answer>, AllocError>
+        requires { IsReady delivery.now self.old }
         ensures kept { Keeps self.old self.new }
-        ensures ok { IfOk result (λ answers. Played (WorldEvent.Deliver (name_of sender.now) (name_of receiver.now)) self.old self.new [] answers.items) }
-        ensures few { IfOk result (λ answers. AreFew place self.old answers.items) }
+        ensures ok { IfOk result (λ answers. Played (delivered_by delivery.now) self.old self.new [] answers.items) }
+        ensures few { IfOk result (λ answers. AreFew delivery.now.link.receiver self.old answers.items) }
         ensures as_before { OnErr result (named self.new ≡ named self.old) }
     {
+        let place = delivery.link.receiver;
         make_room(&self.cores[place], &mut self.links, &mut self.history)?;
-        let Some(letter) = self.links.front(sender, receiver) else {
+        let Some(letter) = self.links.front(delivery) else {
             unreachable!()
         };
         let alloc: Global = *self.cores.allocator();
         let spare = mem::replace(&mut self.spare, Turn::begin(alloc));
         let core = &mut self.cores[place];
         let own = join_of(core);
-        let turn = core.accept(Cause::FromPeer(sender, letter), spare)?;
-        self.links.take(sender, receiver);
+        let turn = core.accept(Cause::FromPeer(&delivery.sender, letter), spare)?;
+        self.links.take(delivery);
         let (answers, spare) = take_in(
             turn,
-            receiver,
+            place,
+            &delivery.receiver,
             own,
             &self.cores,
             &mut self.links,
@@ -371,42 +385,17 @@ impl<N: Names<Memory = Global>> World<N> {
         Ok(answers)
     }
 
-    /// The node at this place reads the oldest letter on the link from a name.
-    fn deliver(
-        &mut self,
-        place: usize,
-        sender: &NodeName,
-        receiver: &NodeName,
-    ) -> Result<Vec<Answer>, AllocError>
-        requires { IsAdmitted place (WorldEvent.Deliver sender.now receiver.now) self.old }
+    /// A name comes back: its next node starts at its place, alone and without anything, and is told of all nodes that have left. Where
+    /// memory is refused, nothing has happened.
+    fn restart(&mut self, comeback: Comeback) -> Result<(), AllocError>
+        requires { MayStart comeback self.old }
         ensures kept { Keeps self.old self.new }
-        ensures ok { IfOk result (λ answers. Played (WorldEvent.Deliver sender.now receiver.now) self.old self.new [] answers.items) }
-        ensures few { IfOk result (λ answers. AreFew place self.old answers.items) }
-        ensures as_before { OnErr result (named self.new ≡ named self.old) }
-    {
-        // A name stands where its first node does.
-        let _text = sender.as_str();
-        let reader = self.cores[place].node().copy();
-        let Some(from) = self.links.first_sender(sender, &reader) else {
-            unreachable!()
-        };
-        self.read(place, &from, &reader)
-    }
-
-    /// The name of the node at this place comes back: its next node starts there, alone and without anything, and is told of all nodes
-    /// that have left. Where memory is refused, nothing has happened.
-    fn restart(&mut self, place: usize, name: &NodeName) -> Result<(), AllocError>
-        requires { IsAdmitted place (WorldEvent.Restart name.now) self.old }
-        ensures kept { Keeps self.old self.new }
-        ensures ok { OnOk result (Played (WorldEvent.Restart name.now) self.old self.new [] []) }
-        ensures entered { OnOk result (EntersRestart (WorldEvent.Restart name.now) self.old self.new) }
+        ensures ok { OnOk result (Played (WorldEvent.Restart (name_of comeback.older)) self.old self.new [] []) }
+        ensures entered { OnOk result (EntersRestart (WorldEvent.Restart (name_of comeback.older)) self.old self.new) }
         ensures as_before { OnErr result (named self.new ≡ named self.old) }
     {
         let alloc: Global = *self.cores.allocator();
-        let older = self.links.nodes().as_slice()[place].copy();
-        let Some(next) = older.next() else {
-            unreachable!()
-        };
+        let Comeback { place, older, next } = comeback;
         enter_restart(&mut self.links, &mut self.history, &older, &next)?;
         self.links.reopen(&older, &next);
         replace_in(
@@ -420,25 +409,20 @@ impl<N: Names<Memory = Global>> World<N> {
         Ok(())
     }
 
-    /// Plays an event at the place that it was admitted for, and gives what its step answers. Where memory is refused, nothing has
-    /// happened.
-    pub(crate) fn accept(
-        &mut self,
-        place: usize,
-        event: &WorldEvent,
-    ) -> Result<Vec<Answer>, AllocError>
-        requires { IsAdmitted place event.now self.old }
+    /// Plays an event that was admitted, and gives what its step answers. Where memory is refused, nothing has happened.
+    pub(crate) fn accept(&mut self, admission: Admission<'_>) -> Result<Vec<Answer>, AllocError>
+        requires { IsFound admission self.old }
         ensures kept { Keeps self.old self.new }
-        ensures ok { IfOk result (λ answers. Played event.now self.old self.new [] answers.items) }
-        ensures entered { OnOk result (EntersRestart event.now self.old self.new) }
-        ensures few { IfOk result (λ answers. AreFew place self.old answers.items) }
+        ensures ok { IfOk result (λ answers. Played (event_by admission.entry) self.old self.new [] answers.items) }
+        ensures entered { OnOk result (EntersRestart (event_by admission.entry) self.old self.new) }
+        ensures few { IfOk result (λ answers. AreFew (place_by admission.entry) self.old answers.items) }
         ensures as_before { OnErr result (named self.new ≡ named self.old) }
     {
-        match event {
-            WorldEvent::At(node, event) => self.happen(place, node, event),
-            WorldEvent::Deliver(sender, receiver) => self.deliver(place, sender, receiver),
-            WorldEvent::Restart(name) => {
-                self.restart(place, name)?;
+        match admission {
+            Admission::Own(place, node, event) => self.happen(place, node, event),
+            Admission::Deliver(delivery) => self.read(&delivery),
+            Admission::Restart(comeback) => {
+                self.restart(comeback)?;
                 Ok(Vec::new(*self.cores.allocator()))
             }
         }
@@ -467,20 +451,28 @@ impl<N: Names<Memory = Global>> World<N> {
         ensures unchanged { IfErr result (λ refusal. is_memory refusal ≡ false → self.new ≡ self.old) }
         ensures as_before { OnErr result (named self.new ≡ named self.old) }
     {
-        let place = self.admit(event)?;
-        Ok(self.accept(place, event)?)
+        let admission = self.admit(event)?;
+        Ok(self.accept(admission)?)
     }
 
-    /// The letter that is delivered next: the place of the node that is to read it, the node that sent it, and the one that reads it.
-    pub(crate) fn next_letter(&self) -> Option<(usize, Node, Node)>
-        ensures { MatchOption result (WaitsOn None self.now) (λ letter. IsNextLetter letter.0 letter.1 letter.2 self.now) }
+    /// The delivery that is made next, of the oldest letter on the first link on which one waits.
+    pub(crate) fn next_letter(&self) -> Option<Delivery>
+        ensures { MatchOption result (WaitsOn None self.now) (λ delivery. IsNextLetter delivery self.now) }
     {
         let nodes = self.links.nodes();
+        if self.links.is_drained() {
+            return self.links.first_on_mesh();
+        }
         let (sender, receiver) = self.links.first_waiting()?;
-        let Some(place) = nodes.position(&receiver) else {
-            unreachable!()
+        let link = LinkPlace {
+            sender: self.place_of(sender.name())?,
+            receiver: nodes.position(&receiver)?,
         };
-        Some((place, sender, receiver))
+        Some(Delivery {
+            link,
+            sender,
+            receiver,
+        })
     }
 
     /// Makes the delivery that `settle` makes next, the oldest letter of the first link on which one waits, and gives its answers; or
@@ -493,10 +485,10 @@ impl<N: Names<Memory = Global>> World<N> {
         ensures waits { OnErr result (HasNext self.old) }
         ensures as_before { OnErr result (named self.new ≡ named self.old) }
     {
-        let Some((place, sender, receiver)) = self.next_letter() else {
+        let Some(delivery) = self.next_letter() else {
             return Ok(None);
         };
-        Ok(Some(self.read(place, &sender, &receiver)?))
+        Ok(Some(self.read(&delivery)?))
     }
 
     /// Plays one event, and puts its answers behind those given before. Room for them is had before the event is played.
@@ -511,9 +503,9 @@ impl<N: Names<Memory = Global>> World<N> {
         ensures as_before { OnErr result (named self.new ≡ named self.old) }
         ensures unanswered { OnErr result (answers.new.items ≡ answers.old.items) }
     {
-        let taker = self.admit(event)?;
-        answers.reserve(self.cores[taker].most_answers())?;
-        let mut given = self.accept(taker, event)?;
+        let admitted = self.admit(event)?;
+        answers.reserve(self.cores[admitted.place()].most_answers())?;
+        let mut given = self.accept(admitted)?;
         let _ = answers.append(&mut given);
         Ok(())
     }
@@ -639,7 +631,10 @@ impl<N: Names<Memory = Global>> World<N> {
     pub fn waiting(&self) -> Option<(NodeName, NodeName)>
         ensures { WaitsOn result self.now }
     {
-        let (_, sender, receiver) = self.next_letter()?;
-        Some((sender.name().copy(), receiver.name().copy()))
+        let delivery = self.next_letter()?;
+        Some((
+            delivery.sender.name().copy(),
+            delivery.receiver.name().copy(),
+        ))
     }
 }

@@ -67,8 +67,18 @@ impl<L> Slot<L> {
 }
 
 impl<L: Drop> Slot<L> {
-    /// Sends the letters, the oldest first, until one is handed back.
+    /// Sends the letters, the oldest first, until one is handed back. Where none waits, as mostly, it costs next to nothing.
     pub(crate) fn drain<E: Post<L>>(&mut self, post: &mut E)
+        ensures receiver { self.new.receiver ≡ self.old.receiver }
+        ensures drained { Drained E.posts E.refuses self.old.receiver self.old.letters (E.state post.old) self.new.letters (E.state post.new) }
+    {
+        if !self.is_empty() {
+            self.send_all(post);
+        }
+    }
+
+    /// Sends them, as `drain` does. A letter is large, and so is what this takes on the stack and clears.
+    fn send_all<E: Post<L>>(&mut self, post: &mut E)
         ensures receiver { self.new.receiver ≡ self.old.receiver }
         ensures drained { Drained E.posts E.refuses self.old.receiver self.old.letters (E.state post.old) self.new.letters (E.state post.new) }
     {

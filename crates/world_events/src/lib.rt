@@ -8,8 +8,8 @@ mod refusal;
 pub use events::{Event, WorldEvent};
 pub use name_table::Names;
 pub use node_core::{
-    Answer, Call, Cause, Entry, Event as CoreEvent, Letter, Look, NameCall, NameList, NodeCore,
-    Nodes, Notice, NoticeList, Reply, Retries, StepFault, Turn,
+    Answer, Call, Cause, Entry, Letter, Look, NameCall, NameList, NodeCore, Nodes, Notice,
+    NoticeList, Reply, Retries, StepFault, Turn,
 };
 pub use opening::{Opening, StartFault};
 pub use refusal::Refusal;

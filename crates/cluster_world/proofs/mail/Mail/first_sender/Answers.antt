@@ -3,31 +3,41 @@ use Rattle.std.specs.Prelude.{slice_get, not}
 use Rattle.std.specs.Option.{option_copied}
 use Rattle.std.proofs.lemmas.Bool.{eqb-true, eqb-false, false≢true}
 use Rattle.term.specs.Nodes.{name_of}
-use Rattle.link.specs.Held.{seen}
+use Rattle.link.specs.Held.{from_of, to_of, seen}
 use Rattle.cluster_world.specs.Links.{SentLetter, Unsent}
 use Rattle.cluster_world.specs.Mail.{Mailed, IsSound}
-use Rattle.cluster_world.proofs.Mails.{found_first, none_found, none_at_all, outbox_first, outbox_none}
+use Rattle.cluster_world.proofs.Listed.{known_place}
+use Rattle.cluster_world.proofs.Mails.{link_there, found_first, none_found, none_at_all, outbox_first, outbox_none}
 use Rattle.cluster_world.proofs.mail.Mail.first_sender.Goals as goal
 use Rattle.cluster_world.proofs.mail.Mail.first_sender.Goals.{else-eq-via-then-eq+then-not-has_left+else-has_for, else-eq-via-then-eq+else-not-has_left, else-eq-via-else-eq}
+
+pub front_at-requires : goal.front_at-requires
+front_at-requires c =
+    (link_there _ c.self.invariant c.args.self.now c.self.view_is c.args.link c.args.name.now c.args.receiver.now c.requires).0
 
 pub returns-in-Some : goal.returns-in-Some
 returns-in-Some c =
     let s = subst (λ (h : Mailed). IsSound h) c.self.view_is c.self.invariant in
+    let l = link_there _ c.self.invariant c.args.self.now c.self.view_is c.args.link c.args.name.now c.args.receiver.now c.requires in
     record {
-      first = found_first c.args.self.now s c.args.name.now c.args.receiver.now c.first.result c.on_mesh.result
-          c.copy-in-Some.result c.in-Some.oldest.now (c.first.ensures.node ∙ c.copy.ensures) c.on_mesh.ensures
-          (c.copy-in-Some.ensures ∙ ap (λ (s : SentLetter). s.sender) c.oldest.view_is) c.requires
+      first = found_first c.args.self.now s c.args.name.now c.args.receiver.now (from_of c.args.link c.self.inside.mesh)
+          (to_of c.args.link c.self.inside.mesh) c.copy.result c.in-Some.oldest.now l.1 l.2
+          (c.copy.ensures ∙ ap (λ (s : SentLetter). s.sender) c.oldest.view_is)
+          (known_place c.args.self.now.nodes c.args.receiver.now c.args.link.receiver c.requires.receiver)
           (c.in-Some.ensures
-          ∙ ap (λ (h : Mailed). slice_get ((seen h.mesh).queue c.first.result c.on_mesh.result) 0) c.self.view_is);
+          ∙ ap (λ (h : Mailed). slice_get ((seen h.mesh).queue (from_of c.args.link c.self.inside.mesh)
+          (to_of c.args.link c.self.inside.mesh)) 0) c.self.view_is);
       left = s.left;
     }
 
 pub returns-in_default-unsent : goal.returns-in_default-unsent
 returns-in_default-unsent c =
     let s = subst (λ (h : Mailed). IsSound h) c.self.view_is c.self.invariant in
-    let none = none_found c.args.self.now s c.args.name.now c.args.receiver.now c.first.result c.on_mesh.result
-    (c.first.ensures.node ∙ c.copy.ensures) c.on_mesh.ensures (ap option_copied (sym c.in_default.is) ∙ c.front.ensures
-    ∙ ap (λ (h : Mailed). slice_get ((seen h.mesh).queue c.first.result c.on_mesh.result) 0) c.self.view_is) in
+    let l = link_there _ c.self.invariant c.args.self.now c.self.view_is c.args.link c.args.name.now c.args.receiver.now c.requires in
+    let none = none_found c.args.self.now s c.args.name.now c.args.receiver.now (from_of c.args.link c.self.inside.mesh)
+    (to_of c.args.link c.self.inside.mesh) l.1 l.2 (ap option_copied (sym c.in_default.is) ∙ c.front_at.ensures
+    ∙ ap (λ (h : Mailed). slice_get ((seen h.mesh).queue (from_of c.args.link c.self.inside.mesh)
+    (to_of c.args.link c.self.inside.mesh)) 0) c.self.view_is) in
     record {
       first = none_at_all c.args.self.now s c.args.name.now c.args.receiver.now none
           (ap (λ (h : Mailed). h.unsent) (sym c.self.view_is) ∙ c.in_default-unsent.is);
@@ -37,9 +47,11 @@ returns-in_default-unsent c =
 pub returns-then-has_for : goal.returns-then-has_for
 returns-then-has_for c =
     let s = subst (λ (h : Mailed). IsSound h) c.self.view_is c.self.invariant in
-    let none = none_found c.args.self.now s c.args.name.now c.args.receiver.now c.first.result c.on_mesh.result
-    (c.first.ensures.node ∙ c.copy.ensures) c.on_mesh.ensures (ap option_copied (sym c.in_default.is) ∙ c.front.ensures
-    ∙ ap (λ (h : Mailed). slice_get ((seen h.mesh).queue c.first.result c.on_mesh.result) 0) c.self.view_is) in
+    let l = link_there _ c.self.invariant c.args.self.now c.self.view_is c.args.link c.args.name.now c.args.receiver.now c.requires in
+    let none = none_found c.args.self.now s c.args.name.now c.args.receiver.now (from_of c.args.link c.self.inside.mesh)
+    (to_of c.args.link c.self.inside.mesh) l.1 l.2 (ap option_copied (sym c.in_default.is) ∙ c.front_at.ensures
+    ∙ ap (λ (h : Mailed). slice_get ((seen h.mesh).queue (from_of c.args.link c.self.inside.mesh)
+    (to_of c.args.link c.self.inside.mesh)) 0) c.self.view_is) in
     record {
       first = outbox_first c.args.self.now s c.args.name.now c.args.receiver.now c.copy-then-has_for.result
           c.in-Some-unsent.outbox none
@@ -54,9 +66,11 @@ returns-then-has_for c =
 pub returns : goal.returns
 returns c =
     let s = subst (λ (h : Mailed). IsSound h) c.self.view_is c.self.invariant in
-    let none = none_found c.args.self.now s c.args.name.now c.args.receiver.now c.first.result c.on_mesh.result
-    (c.first.ensures.node ∙ c.copy.ensures) c.on_mesh.ensures (ap option_copied (sym c.in_default.is) ∙ c.front.ensures
-    ∙ ap (λ (h : Mailed). slice_get ((seen h.mesh).queue c.first.result c.on_mesh.result) 0) c.self.view_is) in
+    let l = link_there _ c.self.invariant c.args.self.now c.self.view_is c.args.link c.args.name.now c.args.receiver.now c.requires in
+    let none = none_found c.args.self.now s c.args.name.now c.args.receiver.now (from_of c.args.link c.self.inside.mesh)
+    (to_of c.args.link c.self.inside.mesh) l.1 l.2 (ap option_copied (sym c.in_default.is) ∙ c.front_at.ensures
+    ∙ ap (λ (h : Mailed). slice_get ((seen h.mesh).queue (from_of c.args.link c.self.inside.mesh)
+    (to_of c.args.link c.self.inside.mesh)) 0) c.self.view_is) in
     record {
       first = outbox_none c.args.self.now s c.args.name.now c.args.receiver.now c.in-Some-unsent.outbox none
           (ap (λ (h : Mailed). h.unsent) (sym c.self.view_is) ∙ c.in-Some-unsent.is)

@@ -14,7 +14,7 @@ returns-clause-links c =
       mesh = c.self.inside.mesh;
       unsent = c.self.inside.unsent;
     } in
-    links_left v c.args.self.now c.args.sender.now c.send_all.new.letters.items c.args.letters.now.items c.rest_of.result
+    links_left v c.args.self.now c.args.place c.args.sender.now c.send_all.new.letters.items c.args.letters.now.items c.rest_of.result
     c.rest_of.ensures c.requires.all
     (ap (λ (h : Mailed). posted c.args.sender.now (λ t. letters_to t c.send_all.new.letters.items) (on_links h)) c.self.view_is
     ∙ c.send_all.ensures.links

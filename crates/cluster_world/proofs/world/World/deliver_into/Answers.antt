@@ -15,39 +15,39 @@ use Rattle.cluster_world.proofs.world.World.deliver_into.Goals as goal
 
 pub index-requires : goal.index-requires
 index-requires g c =
-    let l = has_core _ c.self.invariant c.in-Some.receiver c.in-Some.place
-    (ap (λ (k : Held). place c.in-Some.receiver (nodes_of k)) c.self.view_is ∙ c.in-Some.ensures.receiver) in
+    let l = has_core _ c.self.invariant c.in-Some.delivery.receiver c.in-Some.delivery.link.receiver
+    (ap (λ (k : Held). place c.in-Some.delivery.receiver (nodes_of k)) c.self.view_is ∙ c.in-Some.ensures.ready.link.receiver) in
     omega (arith, l, c.self.inside.cores.ok.0)
 
 pub returns-in_err-reserve-clause-waits : goal.returns-in_err-reserve-clause-waits
 returns-in_err-reserve-clause-waits g c =
     let p = err_from_is_err_and c.from_residual.result c.from_residual.ensures.1 in
-    rw p.1 (has_next c.in-Some.place c.in-Some.sender c.in-Some.receiver c.args.self.now c.in-Some.ensures)
+    rw p.1 (has_next c.in-Some.delivery c.args.self.now c.in-Some.ensures)
 
 pub returns-in_err-given-clause-waits : goal.returns-in_err-given-clause-waits
 returns-in_err-given-clause-waits g c =
     let p = err_from_is_err_and c.from_residual-in_err-given.result c.from_residual-in_err-given.ensures.1 in
-    rw p.1 (has_next c.in-Some.place c.in-Some.sender c.in-Some.receiver c.args.self.now c.in-Some.ensures)
+    rw p.1 (has_next c.in-Some.delivery c.args.self.now c.in-Some.ensures)
 
 pub returns-clause-delivered : goal.returns-clause-delivered
 returns-clause-delivered g c = record {
-  sender = name_of c.in-Some.sender;
-  receiver = name_of c.in-Some.receiver;
+  sender = name_of c.in-Some.delivery.sender;
+  receiver = name_of c.in-Some.delivery.receiver;
   next = c.in-Some.ensures.next;
   played = played;
-  less = delivery_lowers (name_of c.in-Some.sender) (name_of c.in-Some.receiver) c.args.self.now c.read.new.self
+  less = delivery_lowers (name_of c.in-Some.delivery.sender) (name_of c.in-Some.delivery.receiver) c.args.self.now c.read.new.self
       c.args.answers.now.items c.append.new.self.items (subst IsWhole c.self.view_is c.self.invariant) played;
 }
   where
     few : length c.in_ok-given.given.items ≤ most_answers c.index.result.now
     few = subst (λ (k : Core). length c.in_ok-given.given.items ≤ most_answers k)
-        (ap (λ (k : Held). get_or k.cores c.in-Some.place c.index.result.now) (sym c.self.view_is)
+        (ap (λ (k : Held). get_or k.cores c.in-Some.delivery.link.receiver c.index.result.now) (sym c.self.view_is)
         ∙ sym c.index.ensures)
         (c.in_ok-given.ensures.few c.index.result.now)
 
-    played : Played (Deliver (name_of c.in-Some.sender) (name_of c.in-Some.receiver)) c.args.self.now c.read.new.self
+    played : Played (Deliver (name_of c.in-Some.delivery.sender) (name_of c.in-Some.delivery.receiver)) c.args.self.now c.read.new.self
         c.args.answers.now.items c.append.new.self.items
-    played = subst (Played (Deliver (name_of c.in-Some.sender) (name_of c.in-Some.receiver)) c.args.self.now c.read.new.self
+    played = subst (Played (Deliver (name_of c.in-Some.delivery.sender) (name_of c.in-Some.delivery.receiver)) c.args.self.now c.read.new.self
         c.args.answers.now.items)
         (ap (λ (l : List Answer). l ++ c.in_ok-given.given.items) (sym c.reserve.ensures.items)
         ∙ sym (appended c.append.result c.reserve.new.self.items c.in_ok-given.given.items (c.append.ensures.succeeds
@@ -56,5 +56,5 @@ returns-clause-delivered g c = record {
         c.in_ok-given.given.ok.0 c.in_ok-given.given.ok.1 c.in_ok-given.given.small few c.most_answers.ensures
         c.in_ok-reserve.ensures.ok)))
         ∙ sym c.append.ensures.items)
-        (played_behind (Deliver (name_of c.in-Some.sender) (name_of c.in-Some.receiver)) c.args.self.now c.read.new.self
+        (played_behind (Deliver (name_of c.in-Some.delivery.sender) (name_of c.in-Some.delivery.receiver)) c.args.self.now c.read.new.self
         c.args.answers.now.items c.in_ok-given.given.items c.in_ok-given.ensures.ok)

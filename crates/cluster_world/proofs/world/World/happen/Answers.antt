@@ -8,6 +8,7 @@ use Rattle.node_core.specs.NodeEventsSeen.{entry_by}
 use Rattle.node_core.specs.Rare.{most_entries, most_answers}
 use Rattle.node_core.specs.Steps.{Steps, refusal_of}
 use Rattle.protocol_model.specs.Links.{Links, posted}
+use Rattle.link.specs.Held.{place}
 use Rattle.node_core.specs.declared.Letter.{Letter}
 use Rattle.world_events.specs.declared.events.WorldEvent.TheVariants.{At}
 use Rattle.world_history.specs.declared.entry.HistoryEntry.{HistoryEntry}
@@ -58,10 +59,10 @@ returns-in_err-turn-clause-as_before g c =
 
 pub take_in-answers-requires-clause-node : goal.take_in-answers-requires-clause-node
 take_in-answers-requires-clause-node g c =
-    ap (λ (ns : List ℕ). set_of ns c.args.node.now) c.make_room.ensures.nodes
-    ∙ known_place c.self.inside.links.nodes c.args.node.now c.args.place (own_place _ c.self.invariant c.make_room.ensures.left
+    ap (place c.args.node.now) c.make_room.ensures.nodes
+    ∙ own_place _ c.self.invariant c.make_room.ensures.left
     c.args.place c.args.node.now c.args.event.now (admitted c.args.self.now _ c.self.view_is c.args.place
-    (At c.args.node.now c.args.event.now) c.requires) c.index_mut-core.result.now c.index_mut-core.ensures.value)
+    (At c.args.node.now c.args.event.now) c.requires) c.index_mut-core.result.now c.index_mut-core.ensures.value
 
 pub take_in-answers-requires-clause-within : goal.take_in-answers-requires-clause-within
 take_in-answers-requires-clause-within g c =

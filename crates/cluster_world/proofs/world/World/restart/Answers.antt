@@ -1,20 +1,12 @@
-use Rattle.std.proofs.Common.{ℕ, ◌≡◌, ◌∙◌, List, get_or, map, ap}
+use Rattle.std.proofs.Common.{ℕ, ◌≡◌, ◌∙◌, List, map, ap}
 use Rattle.std.proofs.lemmas.Result.{err_from_is_err_and}
 use Rattle.term.specs.NodeSets.{succeeded}
 use Rattle.cluster_world.specs.Restarting.{replaced_in}
 use Rattle.cluster_world.specs.Seen.{named}
-use Rattle.cluster_world.proofs.Returning.{read_at, slice_is, slice_put, not_last, long_then, older_known, older_left, were_told, next_known, next_stays, restarted_whole, restarted_played, restarted_entered}
+use Rattle.cluster_world.proofs.Returning.{slice_is, slice_put, long_then, older_known, older_left, were_told, next_known, next_stays, restarted_whole, restarted_played, restarted_entered}
 use Rattle.cluster_world.proofs.Steps.{rested, rested_whole}
 use Rattle.cluster_world.proofs.world.World.restart.Given.{Over}
 use Rattle.cluster_world.proofs.world.World.restart.Goals as goal
-
-pub unreachable-requires : goal.unreachable-requires
-unreachable-requires g c =
-    not_last c.args.self.now _ c.self.view_is c.self.invariant c.nodes.ensures.left c.args.place c.args.name.now
-    c.copy-older.result c.requires
-    (read_at c.as_slice.result.now c.nodes.result.now c.self.inside.links.nodes c.args.place c.copy-older.result
-    c.index-as_slice-place.result
-    c.copy-older.ensures c.index-as_slice-place.is c.as_slice.ensures.nodes c.nodes.ensures.nodes) c.in_default.ensures
 
 pub invariant_of-self : goal.invariant_of-self
 invariant_of-self g c =
@@ -29,61 +21,43 @@ returns-in_err-enter_restart-clause-as_before g c =
 
 pub reopen-requires-clause-present : goal.reopen-requires-clause-present
 reopen-requires-clause-present g c =
-    older_known c.args.self.now _ c.self.view_is c.self.invariant c.nodes.ensures.left c.args.place c.args.name.now
-    c.copy-older.result c.requires
-    (read_at c.as_slice.result.now c.nodes.result.now c.self.inside.links.nodes c.args.place c.copy-older.result
-    c.index-as_slice-place.result
-    c.copy-older.ensures c.index-as_slice-place.is c.as_slice.ensures.nodes c.nodes.ensures.nodes)
+    older_known c.args.self.now _ c.self.view_is c.self.invariant c.enter_restart.ensures.left c.args.comeback
+    c.requires
     c.enter_restart.new.links c.enter_restart.ensures.nodes
 
 pub reopen-requires-clause-left : goal.reopen-requires-clause-left
 reopen-requires-clause-left g c =
-    older_left c.args.self.now _ c.self.view_is c.self.invariant c.nodes.ensures.left c.args.place c.args.name.now
-    c.copy-older.result c.requires
-    (read_at c.as_slice.result.now c.nodes.result.now c.self.inside.links.nodes c.args.place c.copy-older.result
-    c.index-as_slice-place.result
-    c.copy-older.ensures c.index-as_slice-place.is c.as_slice.ensures.nodes c.nodes.ensures.nodes)
+    older_left c.args.self.now _ c.self.view_is c.self.invariant c.enter_restart.ensures.left c.args.comeback
+    c.requires
     c.enter_restart.new.links c.enter_restart.ensures.departed
 
 pub replace_in-requires-clause-told : goal.replace_in-requires-clause-told
 replace_in-requires-clause-told g c =
-    were_told c.args.self.now _ c.self.view_is c.self.invariant c.nodes.ensures.left c.args.place c.args.name.now
-    c.copy-older.result c.requires
-    (read_at c.as_slice.result.now c.nodes.result.now c.self.inside.links.nodes c.args.place c.copy-older.result
-    c.index-as_slice-place.result
-    c.copy-older.ensures c.index-as_slice-place.is c.as_slice.ensures.nodes c.nodes.ensures.nodes)
+    were_told c.args.self.now _ c.self.view_is c.self.invariant c.enter_restart.ensures.left c.args.comeback
+    c.requires
     c.departed.result.now c.as_mut_slice.result.now (c.departed.ensures.departed ∙
     (c.reopen.ensures.departed ∙ c.enter_restart.ensures.departed)) c.as_mut_slice.ensures.value
 
 pub come_back-core-requires-clause-known : goal.come_back-core-requires-clause-known
 come_back-core-requires-clause-known g c =
-    next_known c.args.self.now _ c.self.view_is c.self.invariant c.nodes.ensures.left c.args.place c.args.name.now
-    c.copy-older.result c.requires
-    (read_at c.as_slice.result.now c.nodes.result.now c.self.inside.links.nodes c.args.place c.copy-older.result
-    c.index-as_slice-place.result
-    c.copy-older.ensures c.index-as_slice-place.is c.as_slice.ensures.nodes c.nodes.ensures.nodes)
-    c.in-Some.next c.in-Some.ensures.1 c.nodes-2.result.now (c.nodes-2.ensures.nodes ∙
-    (c.reopen.ensures.nodes ∙ ap (succeeded c.copy-older.result c.in-Some.next) c.enter_restart.ensures.nodes))
+    next_known c.args.self.now _ c.self.view_is c.self.invariant c.enter_restart.ensures.left c.args.comeback
+    c.requires
+    c.nodes.result.now (c.nodes.ensures.nodes ∙
+    (c.reopen.ensures.nodes ∙ ap (succeeded c.args.comeback.older c.args.comeback.next) c.enter_restart.ensures.nodes))
 
 pub come_back-core-requires-clause-stays : goal.come_back-core-requires-clause-stays
 come_back-core-requires-clause-stays g c =
-    next_stays c.args.self.now _ c.self.view_is c.self.invariant c.nodes.ensures.left c.args.place c.args.name.now
-    c.copy-older.result c.requires
-    (read_at c.as_slice.result.now c.nodes.result.now c.self.inside.links.nodes c.args.place c.copy-older.result
-    c.index-as_slice-place.result
-    c.copy-older.ensures c.index-as_slice-place.is c.as_slice.ensures.nodes c.nodes.ensures.nodes)
-    c.in-Some.next c.in-Some.ensures.1 c.departed-2.result.now
+    next_stays c.args.self.now _ c.self.view_is c.self.invariant c.enter_restart.ensures.left c.args.comeback
+    c.requires
+    c.departed-2.result.now
     (c.departed-2.ensures.departed ∙ (c.reopen.ensures.departed ∙ c.enter_restart.ensures.departed))
 
 pub put_core-requires : goal.put_core-requires
 put_core-requires g c =
-    long_then c.args.self.now _ c.self.view_is c.self.invariant c.nodes.ensures.left c.args.place c.args.name.now
-    c.copy-older.result c.requires
-    (read_at c.as_slice.result.now c.nodes.result.now c.self.inside.links.nodes c.args.place c.copy-older.result
-    c.index-as_slice-place.result
-    c.copy-older.ensures c.index-as_slice-place.is c.as_slice.ensures.nodes c.nodes.ensures.nodes)
-    c.departed.result.now c.in-Some.next c.as_mut_slice-2.result.now
-    (slice_is c.departed.result.now c.copy-older.result c.in-Some.next c.self.inside.cores.len c.self.inside.cores.items
+    long_then c.args.self.now _ c.self.view_is c.self.invariant c.enter_restart.ensures.left c.args.comeback
+    c.requires
+    c.departed.result.now c.as_mut_slice-2.result.now
+    (slice_is c.departed.result.now c.args.comeback.older c.args.comeback.next c.self.inside.cores.len c.self.inside.cores.items
     c.replace_in.new.cores
     c.as_mut_slice.result.now _ c.as_mut_slice-2.result.now c.as_mut_slice.ensures.value c.replace_in.ensures
     c.self.inside.cores.ok.0
@@ -98,14 +72,10 @@ module _ (g : Over) (c : goal.After-self-2-1 g) where
   departed = c.self.inside.links.departed
 
   abbrev older : ℕ
-  older = c.copy-older.result
+  older = c.args.comeback.older
 
   abbrev next : ℕ
-  next = c.in-Some.next
-
-  at : older ≡ get_or nodes c.args.place older
-  at = read_at c.as_slice.result.now c.nodes.result.now nodes c.args.place older c.index-as_slice-place.result
-      c.copy-older.ensures c.index-as_slice-place.is c.as_slice.ensures.nodes c.nodes.ensures.nodes
+  next = c.args.comeback.next
 
   left : c.reopen.new.self.departed ≡ departed
   left = c.reopen.ensures.departed ∙ c.enter_restart.ensures.departed
@@ -120,12 +90,12 @@ module _ (g : Over) (c : goal.After-self-2-1 g) where
 
 pub invariant_of-self-2 : goal.invariant_of-self-2
 invariant_of-self-2 g c =
-    restarted_whole c.args.self.now _ c.self.view_is c.self.invariant c.nodes.ensures.left c.args.place c.args.name.now (older g c)
-    c.requires (at g c) (next g c) c.in-Some.ensures.1 c.departed.result.now c.departed-2.result.now c.nodes-2.result.now
+    restarted_whole c.args.self.now _ c.self.view_is c.self.invariant c.enter_restart.ensures.left c.args.comeback
+    c.requires c.departed.result.now c.departed-2.result.now c.nodes.result.now
     c.as_mut_slice-2.result.now _ _ c.reopen.new.self c.enter_restart.new.history.entries c.come_back-core.result
-    (c.departed.ensures.departed ∙ left g c) (c.departed-2.ensures.departed ∙ left g c) (c.nodes-2.ensures.nodes ∙ later g c)
+    (c.departed.ensures.departed ∙ left g c) (c.departed-2.ensures.departed ∙ left g c) (c.nodes.ensures.nodes ∙ later g c)
     (took g c)
-    c.come_back-core.ensures (slice_put c.departed.result.now (older g c) (next g c) c.self.inside.cores.len c.args.place
+    c.come_back-core.ensures (slice_put c.departed.result.now (older g c) (next g c) c.self.inside.cores.len c.args.comeback.place
     c.self.inside.cores.items
     c.as_mut_slice-2.result.now c.put_core.new.cores _ c.come_back-core.result (took g c) c.self.inside.cores.ok.0
     c.put_core.ensures.cores) c.put_core.ensures.past (later g c) (left g c)
@@ -133,12 +103,12 @@ invariant_of-self-2 g c =
 
 pub returns-clause-ok : goal.returns-clause-ok
 returns-clause-ok g c =
-    restarted_played c.args.self.now _ c.self.view_is c.self.invariant c.nodes.ensures.left c.args.place c.args.name.now (older g c)
-    c.requires (at g c) (next g c) c.in-Some.ensures.1 c.departed.result.now c.departed-2.result.now c.nodes-2.result.now
+    restarted_played c.args.self.now _ c.self.view_is c.self.invariant c.enter_restart.ensures.left c.args.comeback
+    c.requires c.departed.result.now c.departed-2.result.now c.nodes.result.now
     c.as_mut_slice-2.result.now _ _ c.reopen.new.self c.enter_restart.new.history.entries c.come_back-core.result
-    (c.departed.ensures.departed ∙ left g c) (c.departed-2.ensures.departed ∙ left g c) (c.nodes-2.ensures.nodes ∙ later g c)
+    (c.departed.ensures.departed ∙ left g c) (c.departed-2.ensures.departed ∙ left g c) (c.nodes.ensures.nodes ∙ later g c)
     (took g c)
-    c.come_back-core.ensures (slice_put c.departed.result.now (older g c) (next g c) c.self.inside.cores.len c.args.place
+    c.come_back-core.ensures (slice_put c.departed.result.now (older g c) (next g c) c.self.inside.cores.len c.args.comeback.place
     c.self.inside.cores.items
     c.as_mut_slice-2.result.now c.put_core.new.cores _ c.come_back-core.result (took g c) c.self.inside.cores.ok.0
     c.put_core.ensures.cores) c.put_core.ensures.past (later g c) (left g c)
@@ -146,8 +116,8 @@ returns-clause-ok g c =
 
 pub returns-clause-entered : goal.returns-clause-entered
 returns-clause-entered g c =
-    restarted_entered c.args.self.now _ c.self.view_is c.self.invariant c.nodes.ensures.left c.args.place c.args.name.now
-    (older g c) c.requires (at g c) (next g c) c.in-Some.ensures.1 _ c.in_ok-enter_restart.ensures.entered
+    restarted_entered c.args.self.now _ c.self.view_is c.self.invariant c.enter_restart.ensures.left c.args.comeback
+    c.requires _ c.in_ok-enter_restart.ensures.entered
 
 pub returns-clause-kept : goal.returns-clause-kept
 returns-clause-kept g c =

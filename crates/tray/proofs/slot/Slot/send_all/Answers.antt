@@ -1,6 +1,6 @@
 use Rattle.std.proofs.Common.{ℕ, subst}
 use Rattle.tray.proofs.Draining.{goes_on}
-use Rattle.tray.proofs.slot.Slot.drain.Goals as goal
+use Rattle.tray.proofs.slot.Slot.send_all.Goals as goal
 
 pub loop-preserved : goal.loop-preserved
 loop-preserved g c = record {

@@ -1,6 +1,6 @@
 use Rattle.std.proofs.Common.{◌≡◌, length}
 use Rattle.tray.proofs.Draining.{Going}
-use Rattle.tray.proofs.slot.Slot.drain.Given as goal
+use Rattle.tray.proofs.slot.Slot.send_all.Given as goal
 
 abbrev pub invariant-loop : goal.invariant-loop
 invariant-loop g l = record {
