@@ -1,7 +1,7 @@
 -- What a process holds, and whether it is there, is changed by steps of its own node alone.
 use Rattle.std.proofs.Common.{ℕ, Bool, true, false, ◌≡◌, ◌+◌, ◌-◌, inl, inr, Option, Some, None, List, [], ◌∷◌, ◌++◌, refl, sym, ap, ◌∙◌, subst}
-use Rattle.std.specs.Prelude.{◌⊎◌, ◌&&◌, ◌||◌, Contains, is_none, if◌then◌else◌}
-use Rattle.std.proofs.lemmas.Bool.{eqb-true, ne_eqb}
+use Rattle.std.specs.Prelude.{◌⊎◌, ◌&&◌, Contains, is_none, if◌then◌else◌}
+use Rattle.std.proofs.lemmas.Bool.{eqb-true, ne_eqb, or_parts}
 use Rattle.std.proofs.lemmas.List.{map-append, append-nil, append_assoc}
 use Rattle.registry_model.specs.Process.{Process, is_process}
 use Rattle.registry_model.proofs.Updates.{at_other}
@@ -73,13 +73,9 @@ module _ (o : Opening) (es : List WorldEvent) (e : WorldEvent) (is : refusal o (
   -- so p is there
   pub still_there : is_no_more w p ≡ false → is_no_more (happens o w e) p ≡ false
   still_there alive = ap (λ (v : World). is_no_more v p) (happens_now o es e is)
-      ∙ rw (stays (parts (left w p.node) (is_dead (w.node p.node).watch p.serial) alive).0)
+      ∙ rw (stays (or_parts (left w p.node) (is_dead (w.node p.node).watch p.serial) alive).0)
       (ap (λ (v : Node). is_dead v.watch p.serial) same_node
-      ∙ (parts (left w p.node) (is_dead (w.node p.node).watch p.serial) alive).1)
-    where
-      parts : (b d : Bool) → (b || d) ≡ false → (b ≡ false) × (d ≡ false)
-      parts true d h = cc
-      parts false d h = (refl, h)
+      ∙ (or_parts (left w p.node) (is_dead (w.node p.node).watch p.serial) alive).1)
 
   -- nothing is answered to p
   won_nothing : (id : Id) (c : ℕ) (t : Option Try) → is_won p id c (answers o w e) t ≡ false

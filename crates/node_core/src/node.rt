@@ -9,6 +9,7 @@ mod locking;
 mod reading;
 mod registrar;
 mod rounds;
+mod stepping;
 
 use crate::cause::Cause;
 use exit_watch::Watch;
@@ -16,7 +17,7 @@ use lock_calls::LockCalls;
 use lock_table::LockTable;
 use locker::Round;
 use name_table::Names;
-use node_events::{Answer, Call, Event, Letter, Reply, StepFault, Turn};
+use node_events::{Call, Letter, Reply, StepFault, Turn};
 use notice_lists::NoticeLists;
 use std::alloc::{AllocError, Global};
 use std::marker::Model;
@@ -101,84 +102,28 @@ impl<N: Names> Model for NodeCore<N> {
 }
 
 impl<N: Names<Memory = Global>> NodeCore<N> {
-    ghost use Rattle.std.specs.Prelude.{false, true, None, Some, is_some, ◌++◌, ◌+◌, ◌-◌, ◌^◌, min, length, OnOk, OnErr, IfOk, IfErr};
+    ghost use Rattle.std.specs.Prelude.{false, true, None, Some, is_some, ◌+◌, ◌-◌, ◌^◌, min, length, OnOk, OnErr, IfOk};
     ghost use Rattle.std.specs.Option.{option_copied};
     ghost use Rattle.protocol_model.specs.Node.{call_of, holds_global};
     ghost use Rattle.node_core.specs.Held.{IsWhole, spans_of};
     ghost use Rattle.node_core.specs.Seen.{node_of};
-    ghost use Rattle.node_events.specs.Seen.{fault_of, is_memory};
     ghost use Rattle.node_events.specs.declared.events.StepFault.TheVariants.{Memory};
     ghost use Rattle.node_core.specs.Rare.{is_admission, is_rare, most_entries, most_answers, Adds, IsFew};
     ghost use Rattle.node_core.specs.Steps.{Steps, Keeps, KeepsQueue, Takes, IsAsBefore, refusal_of, cause_of};
     ghost use Rattle.protocol_model.specs.Event.{can_retry, is_waiting};
     ghost use Rattle.node_core.specs.Joining.{join_number_of};
-    ghost use Rattle.node_events.specs.Made.{Made, HasRoom, IsNothing, nothing};
+    ghost use Rattle.node_events.specs.Made.{HasRoom, IsNothing, nothing};
     ghost use Rattle.node_core.specs.Causes.{event_by};
     ghost use Rattle.node_core.specs.Steps.{Makes};
     ghost use Rattle.protocol_model.specs.Registrar.{retry_global};
     ghost use Rattle.protocol_model.specs.Client.{retry_locks};
     ghost use Rattle.registry_model.specs.Table.{is_rising};
 
-    /// Takes the step of a cause, and gives what it makes: letters, each with the name of its receiver, entries of the history, and
-    /// answers. The letters go to nodes that have started and say what their readers rely on, where what it reads does. A refused
-    /// cause changes nothing; where `Memory` is refused the node is as before, as the protocol sees it, and the cause may be given
-    /// again. Of what no node says that has started (a departure of this node, or of one that hasn't; a join of such a one) no
-    /// clause says what it does.
-    pub fn turn(&mut self, cause: Cause<'_>) -> Result<Turn, StepFault>
-        ensures name { self.new.name ≡ self.old.name }
-        ensures world { self.new.world ≡ self.old.world }
-        ensures ok { IfOk result (λ turn. Steps (event_by cause.entry) self.old self.new turn) }
-        ensures refused { IfErr result (λ fault. refusal_of (event_by cause.entry) self.old ≡ fault_of fault) }
-        ensures unchanged { IfErr result (λ fault. is_memory fault ≡ false → self.new ≡ self.old) }
-        ensures as_before { OnErr result (IsAsBefore self.old self.new) }
-    {
-        if let Some(fault) = self.refusal(cause) {
-            return Err(fault);
-        }
-        let spare = self.new_turn();
-        match self.accept(cause, spare) {
-            Ok(turn) => Ok(turn),
-            Err(_) => Err(StepFault::Memory),
-        }
-    }
-
-    /// Takes the step of an event, as `turn` does: gives its answers, and puts its letters, each with the name of its receiver, behind
-    /// those that are there. Its entries of the history it doesn't give, and `turn` does. A refused event changes nothing, and puts no
-    /// letter there, also where memory is refused: so the step is taken by a copy of the node, which `turn` mostly needn't.
-    pub fn step(
-        &mut self,
-        event: &Event,
-        letters: &mut Vec<(Node, Letter)>,
-    ) -> Result<Vec<Answer>, StepFault>
-        ensures name { self.new.name ≡ self.old.name }
-        ensures world { self.new.world ≡ self.old.world }
-        ensures ok { IfOk result (λ answers. (made : Made) × Steps event.now self.old self.new made
-            × (letters.new.items ≡ letters.old.items ++ made.letters) × (answers.items ≡ made.answers)) }
-        ensures refused { IfErr result (λ fault. refusal_of event.now self.old ≡ fault_of fault) }
-        ensures unchanged { OnErr result (self.new ≡ self.old) }
-        ensures unsent { OnErr result (letters.new.items ≡ letters.old.items) }
-    {
-        let cause = Cause::of(event);
-        if let Some(fault) = self.refusal(cause) {
-            return Err(fault);
-        }
-        let Ok((copy, turn)) = self.stepped(cause, self.new_turn()) else {
-            return Err(StepFault::Memory);
-        };
-        let Turn {
-            letters: mut sent,
-            answers,
-            ..
-        } = turn;
-        if letters.append(&mut sent).is_err() {
-            return Err(StepFault::Memory);
-        }
-        *self = copy;
-        Ok(answers)
-    }
-
-    /// Takes the step of a cause that isn't refused, as `turn` does. Where memory is refused the node is as before, as the protocol
-    /// sees it.
+    /// Takes the step of a cause that isn't refused (`refusal`), and gives what it makes: letters, each with the name of its receiver,
+    /// entries of the history, and answers. The letters go to nodes that have started and say what their readers rely on, where what
+    /// it reads does. Where memory is refused the node is as before, as the protocol sees it, and the cause may be given again. Of
+    /// what no node says that has started (a departure of this node, or of one that hasn't; a join of such a one) no clause says what
+    /// it does.
     ///
     /// Most steps make room first, and then change the node in place. A few want memory behind a change, such as those that move
     /// the names of a node: these are taken by a copy of the node, which then stands in its place.

@@ -1,5 +1,5 @@
 -- Where who asked is told an answer, the node's log has the step that gives it: a loop's moves keep it so.
-use Rattle.std.proofs.Common.{◌≡◌, ℕ, zero, suc, Bool, true, false, Option, Some, None, Ok, Err, List, [], ◌∷◌, ◌++◌, map, flat_map, refl, sym, subst, inl, inr, All}
+use Rattle.std.proofs.Common.{◌≡◌, ℕ, Bool, true, false, Option, Some, None, Ok, Err, List, [], ◌∷◌, ◌++◌, map, flat_map, refl, sym, subst, All}
 use Rattle.std.specs.Prelude.{Result, Contains, if◌then◌else◌}
 use Rattle.std.proofs.lemmas.List.Elements.{All-nil, All-cons, All-head, All-tail, All-rest, All-append, All-weaker, All-contains, All-contains_itself, Contains-append_left, Contains-push}
 use Rattle.registry_model.specs.Process.{Process}
@@ -9,7 +9,6 @@ use Rattle.node_log.specs.declared.StepFault.TheVariants.{NotLive}
 use Rattle.node_log.specs.Entries.{Entry}
 use Rattle.node_log.specs.NodeEventsSeen.{answer_of}
 use Rattle.node_log.specs.NodeCoreHeld.{Held}
-use Rattle.node_log.specs.Openings.{opening_core}
 use Rattle.node_loop.specs.declared.item.Ticket.{Ticket}
 use Rattle.node_loop.specs.declared.replies.TaskFault.{TaskFault}
 use Rattle.node_loop.specs.declared.replies.TaskFault.TheVariants.{NodeLeft, Step}
@@ -22,9 +21,10 @@ use Rattle.node_loop.specs.Desks.{Kept, Begins, addressee, answered, all_answere
 use Rattle.node_loop.specs.Held.{Looping, Written}
 use Rattle.node_loop.specs.Steps.{Cause, stamp_of, entry_of, desk_of, Makes, Rests, Begun}
 use Rattle.node_loop.specs.Items.{by_leave, Departs}
-use Rattle.node_loop.specs.Coming.{HandsOut, HandsOver, ComesBy, IsLoopOf}
+use Rattle.node_loop.specs.Coming.{HandsOut, HandsOver, IsLoopOf}
 use Rattle.node_loop.specs.Answers.{LogsAnswer, told_answer, AnswersAreLogged}
-use Rattle.node_loop.proofs.Moving.{IsKept, turns}
+use Rattle.node_loop.proofs.Moving.{IsKept}
+use Rattle.node_loop.proofs.Coming.{IsOfLoops, of_loop}
 
 -- the log has the answer that this outcome tells, if it tells one
 abbrev Says : Written → Result Came TaskFault → Type 0
@@ -164,17 +164,17 @@ hands_out a b h H = subst Logs (sym H.rest) (All-rest (IsLogged a.log) H.told b.
 hands_over : (a b : Looping) → Logs a → HandsOver a b → Logs b
 hands_over a b h e = subst Logs (sym e) h
 
-comes : (n stamp : ℕ) (core : Held) (b : Looping) → ComesBy n stamp core b → Logs b
-comes zero stamp core b e = subst Logs (sym e) (All-nil (IsLogged (record { node = core.name; entries = [] })))
-comes (suc n) stamp core b x = elim x.2 [
-  | inl T ↦ turns Logs kept x.0 b (comes n stamp core x.0 x.1) T
-  | inr (inl H) ↦ hands_out x.0 b (comes n stamp core x.0 x.1) H
-  | inr (inr O) ↦ hands_over x.0 b (comes n stamp core x.0 x.1) O
-]
+of_loops : IsOfLoops Logs
+of_loops = record {
+  begins = λ stamp core. All-nil (IsLogged (record { node = core.name; entries = [] }));
+  kept = kept;
+  hands_out = hands_out;
+  hands_over = hands_over;
+}
 
 module _ (name : ℕ) (b : Looping) (is : IsLoopOf name b) where
   logs : Logs b
-  logs = comes is.moves is.stamp (opening_core is.nodes is.cluster name) b is.comes
+  logs = of_loop Logs of_loops name b is
 
   -- where the next reply tells it
   pub next_is_logged : (t : Ticket) (stamp : ℕ) (answer : AnyAnswer) (later : List Told) → b.desk.replies ≡ told_answer t stamp answer ∷ later

@@ -17,7 +17,7 @@ use Rattle.term.specs.NodeSets.{set_of, with_older}
 use Rattle.term.proofs.Older.{held}
 use Rattle.node_log.specs.declared.Call.{Call as ClientCall}
 use Rattle.node_log.specs.declared.Call.TheVariants.{Spawn, Whereis, RegisteredNames, Notices, Register, ReRegister, Unregister, SetLock, DelLock, Join as JoinBy}
-use Rattle.node_log.specs.declared.CoreEvent.TheVariants.{FromPeer}
+use Rattle.node_events.specs.declared.events.Event.TheVariants.{FromPeer}
 use Rattle.node_log.specs.declared.Event.{Event}
 use Rattle.node_log.specs.declared.Event.TheVariants.{Call, Retry, Exit, Leave}
 use Rattle.node_log.specs.declared.Letter.{Letter}

@@ -1,5 +1,5 @@
 -- Where the owner of a leave is told that the node has left, the node's log has its leave: a loop's moves keep it so.
-use Rattle.std.proofs.Common.{◌≡◌, ℕ, zero, suc, Bool, true, false, Option, Some, None, Ok, Err, List, [], ◌∷◌, ◌++◌, map, flat_map, refl, sym, ap, subst, ◌∙◌, inl, inr, eq-eqb}
+use Rattle.std.proofs.Common.{◌≡◌, ℕ, Bool, true, false, Option, Some, None, Ok, Err, List, [], ◌∷◌, ◌++◌, map, flat_map, refl, sym, ap, subst, ◌∙◌, eq-eqb}
 use Rattle.std.specs.Prelude.{Result, if◌then◌else◌, ◌||◌}
 use Rattle.std.specs.List.{list_any}
 use Rattle.std.proofs.lemmas.Bool.{and_from, or_from, or_left, or_right, false≢true}
@@ -10,7 +10,6 @@ use Rattle.node_log.specs.declared.Answer.{Answer}
 use Rattle.node_log.specs.Entries.{Entry}
 use Rattle.node_log.specs.NodeEventsSeen.{answer_of}
 use Rattle.node_log.specs.NodeCoreHeld.{Held}
-use Rattle.node_log.specs.Openings.{opening_core}
 use Rattle.node_loop.specs.declared.item.Ticket.{Ticket}
 use Rattle.node_loop.specs.declared.replies.TaskFault.{TaskFault}
 use Rattle.node_loop.specs.declared.waiting.Caller.{Caller}
@@ -22,8 +21,9 @@ use Rattle.node_loop.specs.Desks.{Kept, Begins, addressee, answered, all_answere
 use Rattle.node_loop.specs.Held.{Looping, Written}
 use Rattle.node_loop.specs.Steps.{Cause, stamp_of, entry_of, desk_of, Makes, Rests, Begun}
 use Rattle.node_loop.specs.Items.{by_leave, Departs}
-use Rattle.node_loop.specs.Coming.{HandsOut, HandsOver, ComesBy, IsLoopOf}
-use Rattle.node_loop.proofs.Moving.{IsKept, turns}
+use Rattle.node_loop.specs.Coming.{HandsOut, HandsOver, IsLoopOf}
+use Rattle.node_loop.proofs.Moving.{IsKept}
+use Rattle.node_loop.proofs.Coming.{IsOfLoops, of_loop}
 use Rattle.node_loop.specs.Left.{is_leave_of, logs_leave, told_left, LeavesAreLogged}
 
 -- by this outcome the node has left
@@ -178,17 +178,17 @@ hands_out a b h H = subst Logs (sym H.rest) (record {
 hands_over : (a b : Looping) → Logs a → HandsOver a b → Logs b
 hands_over a b h e = subst Logs (sym e) (record { named = h.named; leave = h.leave })
 
-comes : (n stamp : ℕ) (core : Held) (b : Looping) → ComesBy n stamp core b → Logs b
-comes zero stamp core b e = subst Logs (sym e) (record { named = refl; leave = λ t. absurd (false≢true t) })
-comes (suc n) stamp core b x = elim x.2 [
-  | inl T ↦ turns Logs kept x.0 b (comes n stamp core x.0 x.1) T
-  | inr (inl H) ↦ hands_out x.0 b (comes n stamp core x.0 x.1) H
-  | inr (inr O) ↦ hands_over x.0 b (comes n stamp core x.0 x.1) O
-]
+of_loops : IsOfLoops Logs
+of_loops = record {
+  begins = λ stamp core. record { named = refl; leave = λ t. absurd (false≢true t) };
+  kept = kept;
+  hands_out = hands_out;
+  hands_over = hands_over;
+}
 
 module _ (name : ℕ) (b : Looping) (is : IsLoopOf name b) where
   logs : Logs b
-  logs = comes is.moves is.stamp (opening_core is.nodes is.cluster name) b is.comes
+  logs = of_loop Logs of_loops name b is
 
   -- where the next reply says so
   pub next_is_logged : (t : Ticket) (later : List Told) → b.desk.replies ≡ told_left t ∷ later → logs_leave b.log ≡ true

@@ -5,6 +5,7 @@ pub mod Faults
 pub mod Concluding
 pub mod Turning
 pub mod Moving
+pub mod Coming
 pub mod Left
 pub mod Answers
 pub mod Trays

@@ -17,7 +17,7 @@ use Rattle.term.proofs.Older.{held}
 use Rattle.node_log.specs.declared.Event.{Event}
 use Rattle.node_log.specs.declared.Event.TheVariants as event
 use Rattle.node_log.specs.declared.Answer.{Answer}
-use Rattle.node_log.specs.declared.CoreEvent.TheVariants.{FromPeer}
+use Rattle.node_events.specs.declared.events.Event.TheVariants.{FromPeer}
 use Rattle.node_log.specs.declared.Letter.{Letter}
 use Rattle.node_log.specs.declared.Letter.TheVariants.{SetLock, LockAnswer, GiveBack, GivenBack, ReleaseOf, Apply, Applied, JoinAsk, JoinRefused, Admit, Welcome, Down}
 use Rattle.node_log.specs.NodeCoreHeld.{Held, bound_of}

@@ -7,14 +7,14 @@ use Rattle.std.specs.Prelude.{not, ◌&&◌, Contains, nat_lt, if◌then◌else�
 use Rattle.std.specs.List.{list_all}
 use Rattle.std.proofs.lemmas.Bool.{cases_eq, eq-eqb, eqb-true, le-ltb}
 use Rattle.std.proofs.lemmas.List.{append-nil, append_assoc}
-use Rattle.registry_model.specs.Process.{Text, Process, is_process, Nodes}
+use Rattle.registry_model.specs.Process.{Text, Process, is_process}
 use Rattle.registry_model.specs.Call.{True}
 use Rattle.protocol_model.specs.Letter.{Id, Client, Letter, is_id, is_resource}
 use Rattle.protocol_model.specs.Links.{is_nil}
 use Rattle.protocol_model.specs.LockTable.{Grant, count, is_free_for}
 use Rattle.protocol_model.specs.Round.{Round, owes, asked}
 use Rattle.protocol_model.specs.Watch.{is_dead}
-use Rattle.protocol_model.specs.Node.{LockPhase, LockCall, call_of}
+use Rattle.protocol_model.specs.Node.{LockCall, call_of}
 use Rattle.protocol_model.specs.Event.{Event}
 use Rattle.protocol_model.specs.World.{Opening, in_world, World, left, WorldEvent, At, Deliver, opening_world, refusal, letter_taken, place, other, happens}
 use Rattle.protocol_model.specs.Course.{answers_of}
@@ -47,7 +47,6 @@ use Rattle.getting_through.proofs.RoundNumbers.{round_count}
 use Rattle.getting_through.proofs.Serving.{front_named}
 use Rattle.getting_through.proofs.Told.{chain_of}
 use Rattle.getting_through.proofs.Behind.{walk_of, plain_hears}
-use Rattle.getting_through.proofs.CallSteps.{found_at}
 use Rattle.getting_through.proofs.Verdicts.{kept_in}
 use Rattle.getting_through.proofs.Groups.{below as member_below}
 use Rattle.getting_through.specs.Work.{work}
@@ -55,12 +54,13 @@ use Rattle.getting_through.proofs.Deliveries.{deliveries_lower}
 use Rattle.getting_through.proofs.QuietWorlds.{found_call}
 use Rattle.waiting_lock_calls.specs.Retried.{asks, IsRival}
 use Rattle.waiting_lock_calls.specs.HeldUp.{boss_of, comes_before}
-use Rattle.waiting_lock_calls.proofs.Tried.{behind, AreTries, first, next_tries, found, home, up}
+use Rattle.waiting_lock_calls.proofs.Tried.{still_up, behind, AreTries, first, next_tries, found, home, found_home, up}
 use Rattle.waiting_lock_calls.proofs.Unrivalled.{is_clear, is_heard, heard_suits, letter_heard}
 use Rattle.waiting_lock_calls.proofs.Becoming.{Stage, Died, Succeeded, GaveUp, Open, goes_on}
 use Rattle.waiting_lock_calls.proofs.Winning.{IsSure, asked_runs, free_at_first, IsOnItsWay, first_on_its_way, next_on_its_way, unmet_first, unmet_next, somebody}
 use Rattle.waiting_lock_calls.proofs.Front.{is_bad, is_own, is_in_front, none_own, none_behind}
-use Rattle.waiting_lock_calls.proofs.Rivals.{Fits, IsAsked, IsRoundOf, RoundIn, IsOrdered, IsApt, ordered_keeps}
+use Rattle.waiting_lock_calls.proofs.Rounds.{InPhase, heard_home, heard_round}
+use Rattle.waiting_lock_calls.proofs.Rivals.{Fits, IsAsked, IsRoundOf, IsOrdered, IsApt, ordered_keeps}
 use Rattle.waiting_lock_calls.proofs.RivalsFirst.{ordered_first}
 use Rattle.waiting_lock_calls.proofs.Standing.{counted, its_round, same_id, rests, has_lock, owes_none, not_idle}
 use Rattle.getting_through.specs.Worlds.{of_nodes, IsQuiet}
@@ -151,16 +151,16 @@ module _ (o : Opening) (es : List WorldEvent) (a : ℕ) (c : LockCall) (listed :
     unmet = K.unmet T.tries T.last
 
     at_home : call_at v p ≡ Some e
-    at_home = ap (λ (x : ℕ). call_of p (v.node x).calls) (home o es a c listed Q h) ∙ e_found
+    at_home = found_home o es a c listed Q h v e e_found
 
     up_in : (x : ℕ) → IsUp o w x → IsUp o v x
-    up_in x u = (u.0, ap (λ (s : Nodes). s x) K.tables.stay ∙ u.1)
+    up_in = still_up o w v K.tables.stay
 
     abbrev round : Round
     round = (its_round o es a c listed Q h client xs T e e_found e_number unmet).0
 
     its : IsRoundOf o w a c S.resource S.requester S.id client unique clients listed mine e round
-    its = subst (RoundIn o w a c S.resource S.requester S.id client unique clients listed mine e)
+    its = subst (InPhase o w (IsRoundOf o w a c S.resource S.requester S.id client unique clients listed mine) e)
         (its_round o es a c listed Q h client xs T e e_found e_number unmet).1
         (K.tables.rounds p e at_home (subst (IsUp o w) (sym (home o es a c listed Q h)) (up o es a c listed Q h)))
 
@@ -290,12 +290,12 @@ module _ (o : Opening) (es : List WorldEvent) (a : ℕ) (c : LockCall) (listed :
       ]
         where
           home_d : d.holder.node ≡ t
-          home_d = home_of_call t d.holder (u.node t).calls d (C.ordered t) m.tested.2.call
+          home_d = heard_home o w (IsRoundOf o w a c S.resource S.requester S.id client unique clients listed mine) t u C KU.rounds
+              g id b d r m
 
           I : IsRoundOf o w a c S.resource S.requester S.id client unique clients listed mine d r
-          I = subst (RoundIn o w a c S.resource S.requester S.id client unique clients listed mine d) m.tested.2.phase
-              (KU.rounds d.holder d (found_at u t C.ordered d (LockPhase.Asking r) m.tested.2) (subst (IsUp o w) (sym home_d)
-              (m.inside, sym (ap (λ (s : Nodes). s t) KU.stay) ∙ m.running)))
+          I = heard_round o w (IsRoundOf o w a c S.resource S.requester S.id client unique clients listed mine) t u C KU.rounds KU.stay
+              g id b d r m
 
           at_a : t ≡ a
           at_a = sym home_d ∙ sym (ap (λ (q : Process). q.node) I.its_holder) ∙ homes I.call I.waited
@@ -447,7 +447,7 @@ module _ (o : Opening) (es : List WorldEvent) (a : ℕ) (c : LockCall) (listed :
   ]
     where
       ups : (x : ℕ) → IsUp o w x → IsUp o v x
-      ups x u = (u.0, ap (λ (s : Nodes). s x) same ∙ u.1)
+      ups = still_up o w v same
 
       go : IsUp o v t → IsUp o v f → (refusal o v (Deliver f t) ≡ None) × IsUp o v t × IsUp o v f
       go ut uf = (rw (ut.0, uf.0, ut.1, some) refl, ut, uf)

@@ -45,7 +45,7 @@ use Rattle.getting_through.proofs.Freeing.{registrars_get_free}
 use Rattle.waiting_lock_calls.specs.Retried.{asks}
 use Rattle.waiting_lock_calls.specs.HeldUp.{HeldUp}
 use Rattle.waiting_lock_calls.specs.NoDeadEnd.{IsHeldUpAt, IsFinished, NoDeadEnd}
-use Rattle.waiting_lock_calls.proofs.Tried.{behind, found, home, there, phase}
+use Rattle.waiting_lock_calls.proofs.Tried.{behind, found, home, found_home, there, phase}
 use Rattle.waiting_lock_calls.proofs.Chosen.{AreSound, wins_or_dies}
 use Rattle.waiting_lock_calls.proofs.OpenCalls.{open_calls, Was, IsLater, later, no_more, fewer}
 use Rattle.waiting_lock_calls.proofs.WhyHeld.{IsReady, IsClearOf, all_held}
@@ -165,7 +165,7 @@ module _ (o : Opening) where
         go (Some d) e = absurd (by decided)
           where
             at_home : call_at (world o (es ++ At a Event.Retry ∷ D.0)) p ≡ Some d
-            at_home = ap (λ (x : ℕ). call_of p ((world o (es ++ At a Event.Retry ∷ D.0)).node x).calls) (home o es a c R.listed Q h) ∙ e
+            at_home = found_home o es a c R.listed Q h (world o (es ++ At a Event.Retry ∷ D.0)) d e
 
             number : c.number ≡ d.number
             number = let W : Was o w p d = L.was p d at_home in

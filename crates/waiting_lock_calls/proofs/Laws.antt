@@ -6,7 +6,7 @@ use Rattle.std.proofs.lemmas.Bool.{eq-eqb, and_from}
 use Rattle.std.proofs.lemmas.Grind.{flat_map-append}
 use Rattle.std.proofs.lemmas.List.{append_assoc}
 use Rattle.std.proofs.lemmas.List.Elements.{Contains-append_cases}
-use Rattle.registry_model.specs.Process.{Process, Nodes}
+use Rattle.registry_model.specs.Process.{Process}
 use Rattle.registry_model.specs.Call.{Reply, True, False}
 use Rattle.registry_model.proofs.Lists.{Contains-nil}
 use Rattle.protocol_model.specs.Letter.{Id}
@@ -48,7 +48,7 @@ use Rattle.getting_through.proofs.QuietWorlds.{call_listed}
 use Rattle.getting_through.specs.GettingThrough.{IsAlone}
 use Rattle.getting_through.proofs.Entered.{course-append}
 use Rattle.waiting_lock_calls.specs.Retried.{asks, IsRival, HasBecome, Won, Dropped, Failed, WaitsOn, RetriesAreTold, FreeCallsWin}
-use Rattle.waiting_lock_calls.proofs.Tried.{along, AreTries, first, next_tries, found, home, phase, up, more, next_left}
+use Rattle.waiting_lock_calls.proofs.Tried.{along, still_up, AreTries, first, next_tries, found, home, found_home, phase, up, more, next_left}
 use Rattle.waiting_lock_calls.proofs.Becoming.{Stage, Died, Succeeded, GaveUp, Open, goes_on, each_delivery}
 use Rattle.waiting_lock_calls.proofs.Unrivalled.{is_clear, IsClear, clear_first, clear_next}
 use Rattle.waiting_lock_calls.proofs.Winning.{IsSure, free_at_first, IsOnItsWay, first_on_its_way, next_on_its_way, unmet_first, unmet_next, stays_on_its_way, somebody}
@@ -162,7 +162,7 @@ module _ (o : Opening) (es : List WorldEvent) (a : ℕ) (c : LockCall) (listed :
   module _ (d : LockCall) (d_found : call_of p ((world o last).node a).calls ≡ Some d) (d_number : d.number ≡ c.number)
       (runs : IsUp o (world o last) a) where
     at_home : call_at (world o last) p ≡ Some d
-    at_home = ap (λ (x : ℕ). call_of p ((world o last).node x).calls) (home o es a c listed A.before A.accepted) ∙ d_found
+    at_home = found_home o es a c listed A.before A.accepted (world o last) d d_found
 
     waits : d.phase ≡ LockPhase.Waiting
     waits = calls_wait o (world o last) (whole o last) quiet p d
@@ -205,10 +205,7 @@ module _ (o : Opening) (es : List WorldEvent) (a : ℕ) (c : LockCall) (listed :
         subst (λ (t : Tries). t.met ≡ true) (some_same R.tries T.tries (sym R.last ∙ T.last)) R.failed
 
   runs_at_last : IsUp o (world o last) a
-  runs_at_last = (
-    (up o es a c listed A.before A.accepted).0,
-    ap (λ (s : Nodes). s a) at_last.0.stay ∙ (up o es a c listed A.before A.accepted).1,
-  )
+  runs_at_last = still_up o w (world o last) at_last.0.stay a (up o es a c listed A.before A.accepted)
 
   pub becomes : HasBecome w v a c (course o w fs)
   becomes = go at_last.1

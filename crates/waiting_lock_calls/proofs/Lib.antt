@@ -1,5 +1,6 @@
 pub mod Tried
 pub mod Asked
+pub mod Rounds
 pub mod Unrivalled
 pub mod Becoming
 pub mod Winning

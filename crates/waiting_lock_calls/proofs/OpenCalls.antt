@@ -12,7 +12,7 @@ use Rattle.protocol_model.specs.Event.{Event, Refusal}
 use Rattle.protocol_model.specs.World.{Opening, in_world, World, left, WorldEvent, At, Deliver, opening_world, refusal, accepted, happens}
 use Rattle.getting_through.proofs.Invariants.{IsUp}
 use Rattle.getting_through.proofs.Rules
-use Rattle.getting_through.proofs.Rules.{Rule, May, Ordered, is_ordered}
+use Rattle.getting_through.proofs.Rules.{Rule, May, is_ordered}
 use Rattle.walk.proofs.Calls.{AllAfter, all_after, ordered_parts, is_ordered-drop_call}
 use Rattle.walk.proofs.ChainKinds.{Hearing, suits}
 use Rattle.walk.proofs.Walk.{OrderedWalk}

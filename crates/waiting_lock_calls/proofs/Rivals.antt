@@ -6,14 +6,14 @@ use Rattle.std.proofs.Common.{ℕ, Bool, true, false, ◌==◌, ◌≡◌, Optio
 use Rattle.std.specs.Prelude.{not, ◌&&◌, Contains, if◌then◌else◌}
 use Rattle.std.specs.List.{list_all}
 use Rattle.std.proofs.lemmas.Bool.{eq-eqb}
-use Rattle.registry_model.specs.Process.{Text, Process, is_process, Nodes}
+use Rattle.registry_model.specs.Process.{Text, Process, is_process}
 use Rattle.registry_model.proofs.Updates.{by_test}
 use Rattle.protocol_model.specs.Letter.{Id, Client, Letter}
 use Rattle.protocol_model.specs.LockTable.{Locks, is_free_for, grant}
 use Rattle.protocol_model.specs.Round.{Round, asked, rest, opens, answer}
 use Rattle.protocol_model.specs.Node.{Node, LockPhase, LockCall}
 use Rattle.protocol_model.specs.Turn.{begun, send, send_all, sent_to, with_locks, keep_call}
-use Rattle.protocol_model.specs.Client.{in_phase, is_spent}
+use Rattle.protocol_model.specs.Client.{in_phase}
 use Rattle.protocol_model.specs.World.{Opening, in_world, World, left}
 use Rattle.getting_through.proofs.Indices.{both, not_true}
 use Rattle.getting_through.proofs.Invariants.{Each, IsUp}
@@ -23,18 +23,15 @@ use Rattle.getting_through.proofs.SendTests.{pass_sent}
 use Rattle.walk.proofs.ChainKinds.{Hearing, suits}
 use Rattle.walk.proofs.Orders.{effect-node}
 use Rattle.getting_through.proofs.Base.{is_leave, effect-turn, after_turn, popped, popped_queue, each-one, each-all, each-popped, each-posted}
-use Rattle.getting_through.proofs.Calls.{home_of_call}
 use Rattle.getting_through.proofs.Grounds.{Base}
 use Rattle.getting_through.proofs.Ids.{is_process_same}
 use Rattle.getting_through.proofs.GrantLists.{all_grants, all_filter, all_grant, all_give_back}
-use Rattle.getting_through.proofs.Ongoing.{asked_answer, asked_down}
 use Rattle.getting_through.proofs.Parts.{locks_by, parts}
-use Rattle.getting_through.proofs.Phases.{StepOk, Puts, Drops, step_of}
 use Rattle.getting_through.proofs.Requests.{is_apart, sends_apart}
-use Rattle.getting_through.proofs.Rounds.{answer_boss}
-use Rattle.getting_through.proofs.CallSteps.{AllCalls, found_at, calls_kept}
+use Rattle.getting_through.proofs.CallSteps.{AllCalls, calls_kept}
 use Rattle.waiting_lock_calls.specs.Retried.{asks}
 use Rattle.waiting_lock_calls.specs.HeldUp.{boss_of}
+use Rattle.waiting_lock_calls.proofs.Rounds.{HasSuch, GoesOn, rounds_put, heard_round}
 use Rattle.waiting_lock_calls.proofs.Unrivalled.{is_clear, is_heard, heard_suits}
 use Rattle.waiting_lock_calls.proofs.Front.{is_own, is_in_front, none_own, front_drop, front_append, apart_other}
 
@@ -70,18 +67,20 @@ module _ (o : Opening) (w : World) (a : ℕ) (c : LockCall) (r z : Text) (of : c
     pub its_boss : round.boss ≡ boss_of o w a call
     pub asks_those : (x : ℕ) → asked round x ≡ true → asks w a call x ≡ true
 
-  abbrev pub RoundIn : LockCall → LockPhase → Type 0
-  RoundIn d (LockPhase.Asking round) = IsRoundOf d round
-  RoundIn d LockPhase.Waiting = Unit {0}
-  RoundIn d (LockPhase.Deleting owing) = Unit {0}
-
-  abbrev pub HasRound : Process → LockCall → Type 0
-  HasRound q d = IsUp o w q.node → RoundIn d d.phase
+  goes_on : GoesOn o w IsRoundOf
+  goes_on d old new same top was = record {
+    call = was.call;
+    waited = was.waited;
+    its_id = was.its_id;
+    its_holder = was.its_holder;
+    its_boss = top ∙ was.its_boss;
+    asks_those = λ x k. was.asks_those x (sym (same x) ∙ k);
+  }
 
   -- what is known of the world v behind it
   pub record IsOrdered (v : World) : Type 0 where
     pub stay : left v ≡ left w
-    pub rounds : AllCalls HasRound v
+    pub rounds : AllCalls (HasSuch o w IsRoundOf) v
     pub letters : (f t : ℕ) → in_world o f ≡ true → IsUp o v t → Each (Fits f t) (v.links.queue f t)
     pub front : is_in_front c (v.links.queue a boss) ≡ true
     pub ways : (x : ℕ) → asks w a c x ≡ true → all_grants (is_clear c) (v.node x).locks ≡ true
@@ -113,50 +112,10 @@ module _ (o : Opening) (w : World) (a : ℕ) (c : LockCall) (r z : Text) (of : c
   IsApt t v x = Unit {0}
 
   module _ (t : ℕ) (v : World) (B : Base o v) (K : IsOrdered v) where
-    rounds_put : (x : Rule) → suits Hearing x ≡ true → May o t v x
-        → StepOk (λ d. HasRound d.holder d) (step_of o.bound (v.node t) x)
-    rounds_put (Rules.HearsLock f id g d round) h m = λ up.
-        let was : IsRoundOf d round = subst (RoundIn d) m.tested.2.phase (K.rounds d.holder d
-        (found_at v t B.ordered d (LockPhase.Asking round) m.tested.2) up) in
-        record {
-          call = was.call;
-          waited = was.waited;
-          its_id = was.its_id;
-          its_holder = was.its_holder;
-          its_boss = answer_boss f g round ∙ was.its_boss;
-          asks_those = λ x k. was.asks_those x (sym (asked_answer f g round m.tested.3 x) ∙ k);
-        }
-    rounds_put (Rules.MarksLockDown e d round) h m = λ up.
-        let was : IsRoundOf d round = subst (RoundIn d) m.tested.1.phase (K.rounds d.holder d
-        (found_at v t B.ordered d (LockPhase.Asking round) m.tested.1) up) in
-        record {
-          call = was.call;
-          waited = was.waited;
-          its_id = was.its_id;
-          its_holder = was.its_holder;
-          its_boss = was.its_boss;
-          asks_those = λ x k. was.asks_those x (sym (asked_down e round x) ∙ k);
-        }
-    rounds_put (Rules.GivesUpLock d round granted) h m = go (is_spent d.retries)
-      where
-        go : (b : Bool) → StepOk (λ e. HasRound e.holder e) (if b then Drops d.holder else Puts (in_phase LockPhase.Waiting d))
-        go true = tt
-        go false = λ up. tt
-    rounds_put (Rules.CountsGivenBack f d owing) h m = λ up. tt
-    rounds_put (Rules.CountsLockDown e d owing) h m = λ up. tt
-    rounds_put (Rules.AsksLock d) h m = cc h
-    rounds_put (Rules.DeletesLock d) h m = cc h
-    rounds_put x h m = tt
-
     -- a round that hears an answer
     module _ (f : ℕ) (id : Id) (g : Bool) (d : LockCall) (round : Round) (m : May o t v (Rules.HearsLock f id g d round)) where
-      home : d.holder.node ≡ t
-      home = home_of_call t d.holder (v.node t).calls d (B.ordered t) m.tested.2.call
-
       its : IsRoundOf d round
-      its = subst (RoundIn d) m.tested.2.phase (K.rounds d.holder d
-          (found_at v t B.ordered d (LockPhase.Asking round) m.tested.2) (subst (IsUp o w) (sym home)
-          (m.inside, sym (ap (λ (s : Nodes). s t) K.stay) ∙ m.running)))
+      its = heard_round o w IsRoundOf t v B K.rounds K.stay f id g d round m
 
       -- one that opens is in nobody's way
       clear : asks w a c f ≡ true → g ≡ true → is_clear c d.id d.holder ≡ true
@@ -271,7 +230,8 @@ module _ (o : Opening) (w : World) (a : ℕ) (c : LockCall) (r z : Text) (of : c
     pub ordered_keeps : (x : Rule) → is_heard x ≡ true → May o t v x → IsApt t v x → IsOrdered (Rules.effect o t x v)
     ordered_keeps x h m k = record {
       stay = ap left (sym same) ∙ K.stay;
-      rounds = calls_kept o t v x B.ordered m HasRound (rounds_put x (heard_suits x h) m) K.rounds;
+      rounds = calls_kept o t v x B.ordered m (HasSuch o w IsRoundOf)
+          (rounds_put o w IsRoundOf t v B K.rounds goes_on x (heard_suits x h) m) K.rounds;
       letters = λ f y inside up. subst (λ (u : World). Each (Fits f y) (u.links.queue f y)) same
           (each-posted (Fits f y) t (λ n. sent_to n (Rules.turn_by o t v x).sends) (popped t (Rules.takes o t x) v.links) f y
           (each-popped (Fits f y) t (Rules.takes o t x) v.links.queue f y (K.letters f y inside

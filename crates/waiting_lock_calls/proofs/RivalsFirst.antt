@@ -13,9 +13,9 @@ use Rattle.registry_model.proofs.Lists.{Contains-cases, Contains-front, Contains
 use Rattle.registry_model.proofs.Updates.{by_test}
 use Rattle.protocol_model.specs.Letter.{Id, Client, Letter, Global, is_id, is_resource}
 use Rattle.protocol_model.specs.LockTable.{Locks}
-use Rattle.protocol_model.specs.Round.{is_empty, greatest, begin}
+use Rattle.protocol_model.specs.Round.{Round, is_empty, greatest, begin}
 use Rattle.protocol_model.specs.Watch.{owed}
-use Rattle.protocol_model.specs.Node.{Op, Current, LockPhase, LockCall, Retries, call_of, targets}
+use Rattle.protocol_model.specs.Node.{Op, Current, LockPhase, LockCall, Retries, targets}
 use Rattle.protocol_model.specs.Turn.{Turn, Send, begun, with_queue, sent_to}
 use Rattle.protocol_model.specs.Registrar.{registrar, ask_join, contact_left, start_queue, start_next, start_free, start, retry_global}
 use Rattle.protocol_model.specs.Client.{in_phase, one_less, close_call, ask_lock, try_lock, retry_in, retry_locks}
@@ -28,22 +28,17 @@ use Rattle.getting_through.proofs.Rules.{is_ordered}
 use Rattle.getting_through.proofs.Sends.{sent_to-append, sent_to-one}
 use Rattle.walk.proofs.Calls.{AllAfter, all_after, ordered_parts}
 use Rattle.getting_through.proofs.Base.{each-map, each-posted, posted-here}
-use Rattle.getting_through.proofs.Clients.{call_at}
 use Rattle.getting_through.proofs.Families.{Whole}
 use Rattle.getting_through.proofs.GrantLists.{all_grants}
 use Rattle.getting_through.proofs.Ids.{is_process_same}
 use Rattle.getting_through.proofs.Ongoing.{asked_begin}
-use Rattle.getting_through.proofs.Quiet.{calls_wait}
-use Rattle.getting_through.proofs.CallSteps.{AllCalls}
-use Rattle.getting_through.proofs.CallTurns.{some_unless, begun_over, anew_in, anew}
-use Rattle.getting_through.proofs.EventTurns.{AgainTurn, again_turn}
-use Rattle.getting_through.proofs.QuietWorlds.{call_listed}
 use Rattle.waiting_lock_calls.specs.Retried.{asks, IsRival}
 use Rattle.waiting_lock_calls.specs.HeldUp.{boss_of, comes_before}
 use Rattle.waiting_lock_calls.proofs.Asked.{AsksBoss, Begins, Begun, retry_begun}
+use Rattle.waiting_lock_calls.proofs.Rounds.{rounds_first}
 use Rattle.waiting_lock_calls.proofs.Unrivalled.{is_clear}
 use Rattle.waiting_lock_calls.proofs.Front.{is_bad, is_own, is_in_front, none_bad, none_own, front_none_bad, front_append}
-use Rattle.waiting_lock_calls.proofs.Rivals.{Fits, HasRound, RoundIn, IsOrdered}
+use Rattle.waiting_lock_calls.proofs.Rivals.{Fits, IsRoundOf, IsOrdered}
 use Rattle.getting_through.specs.Worlds.{of_nodes, IsQuiet}
 
 -- no node of a set is above its greatest
@@ -198,14 +193,14 @@ module _ (o : Opening) (w : World) (a : ℕ) (c : LockCall) (r z : Text) (of : c
   abbrev Ordered : World → Type 0
   Ordered v = IsOrdered o w a c r z of client unique clients listed mine v
 
+  abbrev RoundOf : LockCall → Round → Type 0
+  RoundOf d round = IsRoundOf o w a c r z of client unique clients listed mine d round
+
   abbrev Fit : ℕ → ℕ → Letter → Type 0
   Fit f t l = Fits o w a c r z of client unique clients listed mine f t l
 
   begun_turn : Begun w a o.bound u
   begun_turn = retry_begun w a o.bound
-
-  T : AgainTurn o w W.base.ordered a
-  T = again_turn o w W.base.ordered a
 
   -- who is in the call's way where it asks is a rival
   rival : (d : LockCall) → Contains (w.node a).calls d → (q : Process) → is_clear c d.id q ≡ false → (x : ℕ) → asks w a c x ≡ true
@@ -363,34 +358,22 @@ module _ (o : Opening) (w : World) (a : ℕ) (c : LockCall) (r z : Text) (of : c
           go (Current.Joining k m) = all_in_front xs ys split (begun (w.node a)) refl refl
 
   -- a call that is tried anew has its round
-  begins_anew : (q : Process) (b d : LockCall) → q.node ≡ a → IsUp o w q.node → call_at w q ≡ Some b
-      → anew o.bound a (w.node a).replica.members (Some b) ≡ Some d
-      → RoundIn o w a c r z of client unique clients listed mine d d.phase
-  begins_anew q b d home up e i = subst (λ (x : LockCall). RoundIn o w a c r z of client unique clients listed mine x x.phase)
-      (some_unless (is_empty o.bound s) (in_phase (LockPhase.Asking (begin o.bound s)) (record b { retries = one_less b.retries }))
-      d tried)
-      (record {
-        call = b;
-        waited = there;
-        its_id = refl;
-        its_holder = refl;
-        its_boss = refl;
-        asks_those = λ x k. sym (asked_begin o.bound s x) ∙ k;
-      })
-    where
-      s : Nodes
-      s = targets (w.node a).replica.members b.target
-
-      tried : begun_over o.bound a (w.node a).replica.members (record b { retries = one_less b.retries }) ≡ Some d
-      tried = sym (ap (λ (f : LockPhase). anew_in o.bound a (w.node a).replica.members f b) (calls_wait o w W Q q b up e)) ∙ i
-
-      there : Contains (w.node a).calls b
-      there = call_listed q (w.node a).calls b (ap (λ (x : ℕ). call_of q (w.node x).calls) (sym home) ∙ e)
+  begins : (b : LockCall) → Contains (w.node a).calls b
+      → RoundOf (in_phase (LockPhase.Asking (begin o.bound (asks w a b))) (record b { retries = one_less b.retries }))
+      (begin o.bound (asks w a b))
+  begins b there = record {
+    call = b;
+    waited = there;
+    its_id = refl;
+    its_holder = refl;
+    its_boss = refl;
+    asks_those = λ x k. sym (asked_begin o.bound (asks w a b) x) ∙ k;
+  }
 
   pub ordered_first : IsUp o w a → IsUp o w boss → Ordered (accepted o w (At a Event.Retry))
   ordered_first up_a up_boss = record {
     stay = refl;
-    rounds = rounds;
+    rounds = rounds_first o w RoundOf a W Q begins;
     letters = λ f y inside up. each-posted (Fit f y) a (λ n. sent_to n u.sends) w.links f y
         (subst (Each (Fit f y)) (sym (Q f y inside up)) tt)
         (λ i. subst (λ (n : ℕ). Each (Fit n y) (sent_to y u.sends)) (sym i)
@@ -401,16 +384,3 @@ module _ (o : Opening) (w : World) (a : ℕ) (c : LockCall) (r z : Text) (of : c
         → all_grants (is_clear c) (if b then u.node else w.node n).locks ≡ true)
         (λ i. subst (λ (ls : Locks). all_grants (is_clear c) ls ≡ true) (sym begun_turn.locks) (free a i)) (λ n ne i. free n i) y k;
   }
-    where
-      rounds : AllCalls (HasRound o w a c r z of client unique clients listed mine) (accepted o w (At a Event.Retry))
-      rounds q d e up = elim (cases_eq q.node a) [
-        | inl home ↦ here home (call_at w q) refl (sym (T.calls q home) ∙ e)
-        | inr ne ↦ let was : call_at w q ≡ Some d = sym (T.away q ne) ∙ e in
-            subst (RoundIn o w a c r z of client unique clients listed mine d) (sym (calls_wait o w W Q q d up was)) tt
-      ]
-        where
-          here : q.node ≡ a → (k : Option LockCall) → call_at w q ≡ k
-              → anew o.bound a (w.node a).replica.members k ≡ Some d
-              → RoundIn o w a c r z of client unique clients listed mine d d.phase
-          here home None i j = cc j
-          here home (Some b) i j = begins_anew q b d home up i j

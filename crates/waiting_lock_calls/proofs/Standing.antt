@@ -42,7 +42,7 @@ use Rattle.getting_through.proofs.ReasonEvents.{ReasonsAt, reasons_next}
 use Rattle.getting_through.proofs.ReasonSteps.{Reasons}
 use Rattle.getting_through.proofs.Reasons.{MarksIn}
 use Rattle.waiting_lock_calls.specs.Retried.{asks}
-use Rattle.waiting_lock_calls.proofs.Tried.{AreTries, up, home}
+use Rattle.waiting_lock_calls.proofs.Tried.{still_up, AreTries, up, home, found_home}
 use Rattle.waiting_lock_calls.proofs.Front.{is_own, none_own}
 use Rattle.getting_through.specs.Worlds.{of_nodes, IsQuiet}
 use Rattle.getting_through.specs.Clauses.{world}
@@ -145,11 +145,10 @@ module _ (o : Opening) (es : List WorldEvent) (a : ℕ) (c : LockCall) (listed :
     v = world o xs
 
     at_home : call_at v p ≡ Some e
-    at_home = ap (λ (x : ℕ). call_of p (v.node x).calls) (home o es a c listed Q h) ∙ e_found
+    at_home = found_home o es a c listed Q h v e e_found
 
     up_p : IsUp o v p.node
-    up_p = subst (IsUp o v) (sym (home o es a c listed Q h))
-        ((up o es a c listed Q h).0, ap (λ (s : Nodes). s a) T.stay ∙ (up o es a c listed Q h).1)
+    up_p = subst (IsUp o v) (sym (home o es a c listed Q h)) (still_up o w v T.stay a (up o es a c listed Q h))
 
     living : lives o v p ≡ true
     living = caller_lives o v (λ q i x. round_count o xs q i x) (lock_state o xs).clients p e up_p.1 at_home

@@ -5,7 +5,7 @@ use Rattle.std.specs.Prelude.{◌&&◌, ◌||◌, Contains, is_none, if◌then�
 use Rattle.std.specs.List.{list_all}
 use Rattle.std.proofs.lemmas.Bool.{eq-eqb}
 use Rattle.std.proofs.lemmas.List.{append-nil, append_assoc}
-use Rattle.registry_model.specs.Process.{Process}
+use Rattle.registry_model.specs.Process.{Process, Nodes}
 use Rattle.protocol_model.specs.Node.{LockPhase, LockCall, Retries, Times, Endless, call_of, targets}
 use Rattle.protocol_model.specs.Event.{Event, Refusal, is_waiting_call}
 use Rattle.protocol_model.specs.Client.{is_spent, one_less}
@@ -43,6 +43,10 @@ along kind P next [] xs k p = subst P (sym (append-nil xs)) p
 along kind P next (d ∷ ds) xs k p =
     let parts : (kind d ≡ true) × (list_all kind ds ≡ true) = both (kind d) (list_all kind ds) k in
     subst P (append_assoc xs (d ∷ []) ds) (along kind P next ds (xs ++ d ∷ []) parts.1 (next xs d parts.0 p))
+
+-- who is up stays so where nobody leaves
+pub still_up : (o : Opening) (w v : World) → left v ≡ left w → (x : ℕ) → IsUp o w x → IsUp o v x
+still_up o w v same x up = (up.0, ap (λ (s : Nodes). s x) same ∙ up.1)
 
 -- what is left of a call's retries behind its next try
 pub next_left : (given : Retries) (tried : ℕ) (now next : Retries) → is_spent now ≡ false → AreLeft given tried now
@@ -84,8 +88,11 @@ module _ (o : Opening) (es : List WorldEvent) (a : ℕ) (c : LockCall) (listed :
   pub home : p.node ≡ a
   home = home_of_call a p (w.node a).calls c ((whole o es).base.ordered a) found
 
+  pub found_home : (v : World) (e : LockCall) → call_of p (v.node a).calls ≡ Some e → call_at v p ≡ Some e
+  found_home v e here = ap (λ (x : ℕ). call_of p (v.node x).calls) home ∙ here
+
   pub there : call_at w p ≡ Some c
-  there = ap (λ (x : ℕ). call_of p (w.node x).calls) home ∙ found
+  there = found_home w c found
 
   pub phase : c.phase ≡ LockPhase.Waiting
   phase = calls o w (whole o es) Q a up c listed

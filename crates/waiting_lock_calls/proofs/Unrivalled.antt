@@ -1,18 +1,17 @@
 -- A call that has no rival, where its lock is free at the nodes that it asks: along the deliveries behind the retry no grant of
 -- another requester comes in its way there.
 -- w: the quiet world; a: the node; c: the call.
-use Rattle.std.proofs.Common.{ℕ, Bool, true, false, ◌==◌, ◌≡◌, Option, Some, None, List, [], ◌∷◌, ◌++◌, refl, sym, ap, subst, ◌∙◌, inl, inr}
+use Rattle.std.proofs.Common.{ℕ, Bool, true, false, ◌==◌, ◌≡◌, Option, Some, None, List, [], ◌∷◌, ◌++◌, refl, sym, ap, subst, ◌∙◌}
 use Rattle.std.specs.Prelude.{not, ◌&&◌, Contains, is_none, if◌then◌else◌}
 use Rattle.std.specs.List.{list_all}
-use Rattle.std.proofs.lemmas.Bool.{cases_eq}
-use Rattle.registry_model.specs.Process.{Text, Process, Nodes}
+use Rattle.registry_model.specs.Process.{Text, Process}
 use Rattle.registry_model.proofs.Updates.{by_test}
 use Rattle.protocol_model.specs.Letter.{Id, Client, Letter, is_id, is_resource}
 use Rattle.protocol_model.specs.LockTable.{Locks, is_free_for, grant}
-use Rattle.protocol_model.specs.Round.{Round, begin, asked, rest, opens, answer, is_empty}
-use Rattle.protocol_model.specs.Node.{Node, LockPhase, LockCall, call_of, targets}
+use Rattle.protocol_model.specs.Round.{Round, asked, rest, opens, answer}
+use Rattle.protocol_model.specs.Node.{Node, LockPhase, LockCall}
 use Rattle.protocol_model.specs.Turn.{Turn, begun, send, send_all, sent_to, with_locks, keep_call}
-use Rattle.protocol_model.specs.Client.{in_phase, is_spent, one_less}
+use Rattle.protocol_model.specs.Client.{in_phase}
 use Rattle.protocol_model.specs.Event.{Event, Refusal}
 use Rattle.protocol_model.specs.World.{Opening, in_world, World, left, WorldEvent, At, Deliver, turn_of, refusal, accepted, happens}
 use Rattle.protocol_model.specs.Fit.{is_delivery}
@@ -26,24 +25,19 @@ use Rattle.walk.proofs.Walk.{OrderedWalk}
 use Rattle.walk.proofs.Orders.{effect-node}
 use Rattle.getting_through.proofs.Locking.{IsNamed}
 use Rattle.getting_through.proofs.Base.{is_leave, effect-turn, after_turn, popped, each-one, each-all, each-map, each-popped, each-posted}
-use Rattle.getting_through.proofs.Calls.{home_of_call}
-use Rattle.getting_through.proofs.Clients.{Numbers, call_at}
+use Rattle.getting_through.proofs.Clients.{Numbers}
 use Rattle.getting_through.proofs.Families.{Whole}
 use Rattle.getting_through.proofs.Grounds.{Base}
 use Rattle.getting_through.proofs.GrantLists.{all_grants, all_filter, all_grant, all_give_back}
-use Rattle.getting_through.proofs.Ongoing.{asked_answer, asked_down, asked_begin}
+use Rattle.getting_through.proofs.Ongoing.{asked_begin}
 use Rattle.getting_through.proofs.Parts.{locks_by, parts}
-use Rattle.getting_through.proofs.Phases.{StepOk, Puts, Drops, step_of}
-use Rattle.getting_through.proofs.Quiet.{calls_wait}
 use Rattle.getting_through.proofs.Requests.{is_apart, sends_apart}
 use Rattle.getting_through.proofs.Told.{chain_of}
 use Rattle.getting_through.proofs.Behind.{Known, walk_of, plain_hears}
-use Rattle.getting_through.proofs.CallSteps.{AllCalls, found_at, calls_kept}
-use Rattle.getting_through.proofs.CallTurns.{some_unless, begun_over, anew_in, anew}
-use Rattle.getting_through.proofs.EventTurns.{AgainTurn, again_turn}
+use Rattle.getting_through.proofs.CallSteps.{AllCalls, calls_kept}
 use Rattle.getting_through.proofs.Verdicts.{kept_in}
-use Rattle.getting_through.proofs.QuietWorlds.{call_listed}
 use Rattle.waiting_lock_calls.specs.Retried.{asks, IsRival}
+use Rattle.waiting_lock_calls.proofs.Rounds.{HasSuch, GoesOn, rounds_put, heard_round, rounds_first}
 use Rattle.waiting_lock_calls.proofs.Asked.{Asks, each_apart, Begins, begins_asks, Begun, retry_begun}
 use Rattle.getting_through.specs.Worlds.{of_nodes, IsQuiet}
 
@@ -79,19 +73,17 @@ is_clear c i q = not (is_resource i c.id && not (is_id i c.id))
 module _ (o : Opening) (w : World) (a : ℕ) (c : LockCall) (r z : Text) (of : c.id ≡ Client r z)
     (alone : (d : LockCall) → IsRival w a c d → ⊥) where
   -- a round of an open call asks whom a call that waited asks
-  abbrev BegunIn : LockCall → LockPhase → Type 0
-  BegunIn d (LockPhase.Asking round) = (b : LockCall) × Contains (w.node a).calls b × (b.id ≡ d.id)
+  abbrev HasBegun : LockCall → Round → Type 0
+  HasBegun d round = (b : LockCall) × Contains (w.node a).calls b × (b.id ≡ d.id)
       × ((x : ℕ) → asked round x ≡ true → asks w a b x ≡ true)
-  BegunIn d LockPhase.Waiting = Unit {0}
-  BegunIn d (LockPhase.Deleting owing) = Unit {0}
 
-  abbrev HasBegun : Process → LockCall → Type 0
-  HasBegun q d = IsUp o w q.node → BegunIn d d.phase
+  goes_on : GoesOn o w HasBegun
+  goes_on d old new same top was = (was.0, was.1, was.2, λ x k. was.3 x (sym (same x) ∙ k))
 
   -- what is known of the world v behind it
   pub record IsClear (v : World) : Type 0 where
     pub stay : left v ≡ left w
-    pub rounds : AllCalls HasBegun v
+    pub rounds : AllCalls (HasSuch o w HasBegun) v
     pub letters : (f t : ℕ) → in_world o f ≡ true → IsUp o v t → Each (Asks w a t) (v.links.queue f t)
     pub ways : (x : ℕ) → asks w a c x ≡ true → all_grants (is_clear c) (v.node x).locks ≡ true
 
@@ -123,33 +115,6 @@ module _ (o : Opening) (w : World) (a : ℕ) (c : LockCall) (r z : Text) (of : c
 
   -- Behind a rule
   module _ (t : ℕ) (v : World) (B : Base o v) (K : IsClear v) where
-    begun_before : (m : (left v t ≡ false) × (in_world o t ≡ true)) (d : LockCall) (round : Round)
-        → Rules.IsOpen (v.node t) d (LockPhase.Asking round) → d.holder.node ≡ t → BegunIn d (LockPhase.Asking round)
-    begun_before m d round e home = subst (BegunIn d) e.phase (K.rounds d.holder d
-        (found_at v t B.ordered d (LockPhase.Asking round) e) (subst (IsUp o w) (sym home)
-        (m.1, sym (ap (λ (s : Nodes). s t) K.stay) ∙ m.0)))
-
-    rounds_put : (x : Rule) → suits Hearing x ≡ true → May o t v x
-        → StepOk (λ d. HasBegun d.holder d) (step_of o.bound (v.node t) x)
-    rounds_put (Rules.HearsLock f id g d round) h m = λ up.
-        let was : BegunIn d (LockPhase.Asking round) = subst (BegunIn d) m.tested.2.phase (K.rounds d.holder d
-        (found_at v t B.ordered d (LockPhase.Asking round) m.tested.2) up) in
-        (was.0, was.1, was.2, λ x k. was.3 x (sym (asked_answer f g round m.tested.3 x) ∙ k))
-    rounds_put (Rules.MarksLockDown e d round) h m = λ up.
-        let was : BegunIn d (LockPhase.Asking round) = subst (BegunIn d) m.tested.1.phase (K.rounds d.holder d
-        (found_at v t B.ordered d (LockPhase.Asking round) m.tested.1) up) in
-        (was.0, was.1, was.2, λ x k. was.3 x (sym (asked_down e round x) ∙ k))
-    rounds_put (Rules.GivesUpLock d round granted) h m = go (is_spent d.retries)
-      where
-        go : (b : Bool) → StepOk (λ e. HasBegun e.holder e) (if b then Drops d.holder else Puts (in_phase LockPhase.Waiting d))
-        go true = tt
-        go false = λ up. tt
-    rounds_put (Rules.CountsGivenBack f d owing) h m = λ up. tt
-    rounds_put (Rules.CountsLockDown e d owing) h m = λ up. tt
-    rounds_put (Rules.AsksLock d) h m = cc h
-    rounds_put (Rules.DeletesLock d) h m = cc h
-    rounds_put x h m = tt
-
     -- what is sent
     sent : (x : Rule) → suits Hearing x ≡ true → May o t v x → (y : ℕ) → Each (Asks w a y) (sent_to y (Rules.turn_by o t v x).sends)
     sent (Rules.AsksLock d) h m y = cc h
@@ -161,11 +126,8 @@ module _ (o : Opening) (w : World) (a : ℕ) (c : LockCall) (r z : Text) (of : c
         go false = each-one (Asks w a y) y f (Letter.LockAnswer id q false) (λ i. tt)
     sent (Rules.HearsLock f id g d round) h m y = go (opens f g round)
       where
-        home : d.holder.node ≡ t
-        home = home_of_call t d.holder (v.node t).calls d (B.ordered t) m.tested.2.call
-
-        was : BegunIn d (LockPhase.Asking round)
-        was = begun_before (m.running, m.inside) d round m.tested.2 home
+        was : HasBegun d round
+        was = heard_round o w HasBegun t v B K.rounds K.stay f id g d round m
 
         asked_now : (x : ℕ) → (rest round x && not ((v.node t).replica.told x)) ≡ true → asked round x ≡ true
         asked_now x e = (both (asked round x) (not (x == round.boss))
@@ -208,7 +170,8 @@ module _ (o : Opening) (w : World) (a : ℕ) (c : LockCall) (r z : Text) (of : c
     pub clear_keeps : (x : Rule) → is_heard x ≡ true → May o t v x → IsClear (Rules.effect o t x v)
     clear_keeps x h m = record {
       stay = ap left (sym same) ∙ K.stay;
-      rounds = calls_kept o t v x B.ordered m HasBegun (rounds_put x (heard_suits x h) m) K.rounds;
+      rounds = calls_kept o t v x B.ordered m (HasSuch o w HasBegun)
+          (rounds_put o w HasBegun t v B K.rounds goes_on x (heard_suits x h) m) K.rounds;
       letters = λ f y inside up. subst (λ (u : World). Each (Asks w a y) (u.links.queue f y)) same
           (each-posted (Asks w a y) t (λ n. sent_to n (Rules.turn_by o t v x).sends) (popped t (Rules.takes o t x) v.links) f y
           (each-popped (Asks w a y) t (Rules.takes o t x) v.links.queue f y (K.letters f y inside
@@ -249,33 +212,10 @@ module _ (o : Opening) (w : World) (a : ℕ) (c : LockCall) (r z : Text) (of : c
     begun_turn : Begun w a o.bound u
     begun_turn = retry_begun w a o.bound
 
-    T : AgainTurn o w W.base.ordered a
-    T = again_turn o w W.base.ordered a
-
-    waits : (q : Process) (d : LockCall) → IsUp o w q.node → call_at w q ≡ Some d → d.phase ≡ LockPhase.Waiting
-    waits q d up e = calls_wait o w W Q q d up e
-
-    -- a call that is tried anew
-    begins_anew : (q : Process) (b d : LockCall) → q.node ≡ a → IsUp o w q.node → call_at w q ≡ Some b
-        → anew o.bound a (w.node a).replica.members (Some b) ≡ Some d → BegunIn d d.phase
-    begins_anew q b d home up e i = subst (λ (x : LockCall). BegunIn x x.phase)
-        (some_unless (is_empty o.bound s) (in_phase (LockPhase.Asking (begin o.bound s)) (record b { retries = one_less b.retries }))
-        d tried)
-        (b, listed, refl, λ x k. sym (asked_begin o.bound s x) ∙ k)
-      where
-        s : Nodes
-        s = targets (w.node a).replica.members b.target
-
-        tried : begun_over o.bound a (w.node a).replica.members (record b { retries = one_less b.retries }) ≡ Some d
-        tried = sym (ap (λ (f : LockPhase). anew_in o.bound a (w.node a).replica.members f b) (waits q b up e)) ∙ i
-
-        listed : Contains (w.node a).calls b
-        listed = call_listed q (w.node a).calls b (ap (λ (x : ℕ). call_of q (w.node x).calls) (sym home) ∙ e)
-
     pub clear_first : IsClear (accepted o w (At a Event.Retry))
     clear_first = record {
       stay = refl;
-      rounds = rounds;
+      rounds = rounds_first o w HasBegun a W Q (λ b i. (b, i, refl, λ x k. sym (asked_begin o.bound (asks w a b) x) ∙ k));
       letters = λ f y inside up. each-posted (Asks w a y) a (λ n. sent_to n u.sends) w.links f y
           (subst (Each (Asks w a y)) (sym (Q f y inside up)) tt)
           (λ i. each-map (Begins w a o.bound y) (Asks w a y) (begins_asks w a o.bound y) (sent_to y u.sends) (begun_turn.sends y));
@@ -283,14 +223,3 @@ module _ (o : Opening) (w : World) (a : ℕ) (c : LockCall) (r z : Text) (of : c
           → all_grants (is_clear c) (if b then u.node else w.node n).locks ≡ true)
           (λ k. subst (λ (ls : Locks). all_grants (is_clear c) ls ≡ true) (sym begun_turn.locks) (free a k)) (λ n ne k. free n k) y mine;
     }
-      where
-        rounds : AllCalls HasBegun (accepted o w (At a Event.Retry))
-        rounds q d e up = elim (cases_eq q.node a) [
-          | inl home ↦ here home (call_at w q) refl (sym (T.calls q home) ∙ e)
-          | inr ne ↦ let was : call_at w q ≡ Some d = sym (T.away q ne) ∙ e in subst (BegunIn d) (sym (waits q d up was)) tt
-        ]
-          where
-            here : q.node ≡ a → (k : Option LockCall) → call_at w q ≡ k
-                → anew o.bound a (w.node a).replica.members k ≡ Some d → BegunIn d d.phase
-            here home None i j = cc j
-            here home (Some b) i j = begins_anew q b d home up i j

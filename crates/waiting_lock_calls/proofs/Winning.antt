@@ -55,7 +55,7 @@ use Rattle.getting_through.proofs.LastTry.{tries_more, tries_behind}
 use Rattle.getting_through.proofs.Nobody.{some_same}
 use Rattle.getting_through.proofs.Pushed.{events_push}
 use Rattle.waiting_lock_calls.specs.Retried.{asks}
-use Rattle.waiting_lock_calls.proofs.Tried.{behind, AreTries, first, first_met, found, home, up}
+use Rattle.waiting_lock_calls.proofs.Tried.{still_up, behind, AreTries, first, first_met, found, home, found_home, up}
 use Rattle.waiting_lock_calls.proofs.Unrivalled.{is_clear}
 use Rattle.getting_through.specs.Worlds.{of_nodes, IsQuiet}
 use Rattle.getting_through.specs.QuietCalls.{IsFree}
@@ -131,13 +131,13 @@ module _ (o : Opening) (es : List WorldEvent) (a : ℕ) (c : LockCall) (listed :
         d = Deliver f t
 
         up_a : IsUp o v a
-        up_a = ((up o es a c listed Q h).0, ap (λ (s : Nodes). s a) (stay v K.tables) ∙ (up o es a c listed Q h).1)
+        up_a = still_up o w v (stay v K.tables) a (up o es a c listed Q h)
 
         up_t : IsUp o v t
         up_t = ((accepted_of o v d is).place_inside, (accepted_of o v d is).running)
 
         at_home : call_at v p ≡ Some e
-        at_home = ap (λ (x : ℕ). call_of p (v.node x).calls) (home o es a c listed Q h) ∙ e_found
+        at_home = found_home o es a c listed Q h v e e_found
 
         living : lives o v p ≡ true
         living = caller_lives o v (λ q i x. round_count o xs q i x) (lock_state o xs).clients p e

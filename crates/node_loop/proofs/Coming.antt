@@ -1,0 +1,26 @@
+-- What holds of a loop that begins, and what each of its moves keeps, holds of the loop of a node.
+use Rattle.std.proofs.Common.{ℕ, zero, suc, sym, subst, inl, inr}
+use Rattle.node_log.specs.NodeCoreHeld.{Held}
+use Rattle.node_log.specs.Openings.{opening_core}
+use Rattle.node_loop.specs.Held.{Looping}
+use Rattle.node_loop.specs.Coming.{begun, HandsOut, HandsOver, ComesBy, IsLoopOf}
+use Rattle.node_loop.proofs.Moving.{IsKept, turns}
+
+-- a loop begins so, and each move keeps it: a turn, a reply handed out, and what is owed handed over
+pub record IsOfLoops (P : Looping → Type 0) : Type 0 where
+  pub begins : (stamp : ℕ) (core : Held) → P (begun stamp core)
+  pub kept : IsKept P
+  pub hands_out : (a b : Looping) → P a → HandsOut a b → P b
+  pub hands_over : (a b : Looping) → P a → HandsOver a b → P b
+
+module _ (P : Looping → Type 0) (K : IsOfLoops P) where
+  comes : (n stamp : ℕ) (core : Held) (b : Looping) → ComesBy n stamp core b → P b
+  comes zero stamp core b e = subst P (sym e) (K.begins stamp core)
+  comes (suc n) stamp core b x = elim x.2 [
+    | inl T ↦ turns P K.kept x.0 b (comes n stamp core x.0 x.1) T
+    | inr (inl H) ↦ K.hands_out x.0 b (comes n stamp core x.0 x.1) H
+    | inr (inr O) ↦ K.hands_over x.0 b (comes n stamp core x.0 x.1) O
+  ]
+
+  pub of_loop : (name : ℕ) (b : Looping) → IsLoopOf name b → P b
+  of_loop name b is = comes is.moves is.stamp (opening_core is.nodes is.cluster name) b is.comes
