@@ -189,10 +189,12 @@ def under(limits, words):
 
 
 class Limited(Served):
-    """One that may have sixteen descriptors open."""
+    """One under limits: that may have sixteen descriptors open."""
+
+    limits = "-n 16"
 
     def start(self, words):
-        super().start(under("-n 16", words))
+        super().start(under(self.limits, words))
 
 
 def few_descriptors_at_the_start(program):
@@ -214,10 +216,10 @@ def few_descriptors_at_the_start(program):
         shut_down(served, consoles[0], seconds)
 
 
-def threads_that_cannot_be_had(program):
+def threads_that_cannot_be_had(program, consoles):
     """A server that stays whose threads can't be had, for want of room for their stacks, says so, and doesn't say that it listens."""
     with tempfile.TemporaryDirectory(prefix="pressed-") as folder:
-        words = [program.path, "serve", "--stay", "--listen", f"unix:{folder}/socket", "--nodes", "a", "--consoles", "64"]
+        words = [program.path, "serve", "--stay", "--listen", f"unix:{folder}/socket", "--nodes", "a", "--consoles", consoles]
         ran = run(under("-v 400000", words), program.seconds)
         expect_same("standard output", b"", ran.stdout)
         expect_same("standard error", b"error: no memory or no threads for so many nodes and consoles\n", ran.stderr)
@@ -236,6 +238,7 @@ def tests(program, root):
         answers_before_a_lock_that_waits,
         few_descriptors,
         few_descriptors_at_the_start,
-        threads_that_cannot_be_had,
     ]:
         yield Test(f"pressed/{test.__name__}", partial(test, program))
+    for consoles in ["64", "1024"]:
+        yield Test(f"pressed/threads_that_cannot_be_had_for_{consoles}", partial(threads_that_cannot_be_had, program, consoles))

@@ -93,6 +93,21 @@ def until_there_is_a_place(served, line, seconds):
     raise Failure("there is no place for a console in time")
 
 
+def until_it_is_tried_for(console, seconds):
+    """Waits until somebody else's lock was tried for twice, each time by a call of the console's node."""
+
+    def calls():
+        words = hears(console, b"status", seconds).split()
+        return int(words[words.index(b"calls") + 1])
+
+    most = calls() + 2
+    until = time.monotonic() + seconds
+    while calls() < most:
+        if time.monotonic() > until:
+            raise Failure("no lock was tried for again in time")
+        time.sleep(0.01)
+
+
 def given_up_call_frees_its_place(program):
     """At a socket a client goes whose call waits for a lock, for a process that isn't linked: the call is given up, and another console has
     the place. Over TCP nobody can tell such a client from one that has only ended its input, so there its console waits."""
@@ -104,10 +119,7 @@ def given_up_call_frees_its_place(program):
         for line, answer in [(attach(), b"ok"), (b"spawn", b"a.2")]:
             expect_same("an answer", answer, hears(second, line, seconds))
         second.say(b"set_lock a.2 leader two all infinity\n")
-        ask, found = b"set_lock a.2 leader two all 0", b"false"
-        while found == b"false":
-            found = hears(first, ask, seconds)
-        expect_same("the answer while it waits", b"error busy", found)
+        until_it_is_tried_for(first, seconds)
         second.go()
         third = until_there_is_a_place(served, attach(), seconds)
         expect_same("an answer", b"a.3", hears(third, b"spawn", seconds))

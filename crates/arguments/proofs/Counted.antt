@@ -42,12 +42,12 @@ number_read E G bits most t r only fits passed read =
 
 -- the number of consoles, by the text of its option
 pub counted : (E : Type 0) (G : List ℕ → Result ℕ E → Type 0) (given one : Option (List ℕ)) (r : Option ℕ) (n : ℕ)
-    → ((u : List ℕ) (x : Result ℕ E) → G u x → ParsesUnsigned 8 10 u x) → IfSome given (IsSignedIn (pos 1) (pos 64))
+    → ((u : List ℕ) (x : Result ℕ E) → G u x → ParsesUnsigned 16 10 u x) → IfSome given (IsSignedIn (pos 1) (pos 1024))
     → one ≡ option_map without_minus given → (one ≡ None → r ≡ None) → ((t : List ℕ) → one ≡ Some t → ReadsOne G t r)
     → (stay : Bool) (most : ℕ) → CountsConsoles stay None most → n ≡ unwrap_or r most → CountsConsoles stay given n
 counted E G None one r n only passed text none some stay most untold is = is ∙ ap (λ (o : Option ℕ). unwrap_or o most) (none text) ∙ untold
 counted E G (Some t) one r n only passed text none some stay most untold is =
-    let got = number_read E G 8 64 t r only (omega arith) passed (some (without_minus t) text) in
+    let got = number_read E G 16 1024 t r only (omega arith) passed (some (without_minus t) text) in
     let same : n ≡ got.0 = is ∙ ap (λ (o : Option ℕ). unwrap_or o most) got.1 in
     (rw same got.2.0, rw same got.2.1, same ∙ got.2.2)
 

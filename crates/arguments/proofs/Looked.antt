@@ -40,7 +40,7 @@ IsNumber most r text = (r.reading ≡ WithoutMinus) × IsSignedIn (pos 1) (pos m
 record ServeRow (r : Row) : Type 0 where
   text : Text
   is : r.values ≡ text ∷ []
-  number : bytes_eq r.id (codes "consoles") ≡ true → IsNumber 64 r text
+  number : bytes_eq r.id (codes "consoles") ≡ true → IsNumber 1024 r text
   seconds : bytes_eq r.id (codes "idle") ≡ true → IsNumber 31536000 r text
   flag : bytes_eq r.id (codes "stay") ≡ true → (r.reading ≡ AsWritten) × IsFlagText text
 
@@ -89,7 +89,7 @@ serve_fine = record {
           one_valued_fine ServeRow _ refl refl (λ v h. record {
             text = v;
             is = refl;
-            number = λ e. (refl, number_accepted 64 v h);
+            number = λ e. (refl, number_accepted 1024 v h);
             seconds = λ e. cc;
             flag = λ e. cc;
           }),
@@ -187,7 +187,7 @@ has_both false false h = cc
 
 -- the rows of the two numbers
 numbered : (rows : List Row) → AllRows ServeRow rows → (r : Row) → find (λ x. bytes_eq x.id (codes "consoles")) rows ≡ Some r
-    → (text : Text) × (r.values ≡ text ∷ []) × IsNumber 64 r text
+    → (text : Text) × (r.values ≡ text ∷ []) × IsNumber 1024 r text
 numbered rows all r e =
     let found = find_row ServeRow (codes "consoles") rows r all e in (found.0.text, found.0.is, found.0.number found.1)
 
@@ -205,8 +205,8 @@ options_of words none =
     record {
       listen = some_value (find (λ r. bytes_eq r.id (codes "listen")) rows) (λ r e. (find_row ServeRow (codes "listen") rows r level.0 e).0) both.0;
       nodes = some_value (find (λ r. bytes_eq r.id (codes "nodes")) rows) (λ r e. (find_row ServeRow (codes "nodes") rows r level.0 e).0) both.1;
-      consoles = number_value 64 (find (λ r. bytes_eq r.id (codes "consoles")) rows) (numbered rows level.0);
-      digits = number_text 64 (find (λ r. bytes_eq r.id (codes "consoles")) rows) (numbered rows level.0);
+      consoles = number_value 1024 (find (λ r. bytes_eq r.id (codes "consoles")) rows) (numbered rows level.0);
+      digits = number_text 1024 (find (λ r. bytes_eq r.id (codes "consoles")) rows) (numbered rows level.0);
       idle = number_value 31536000 (find (λ r. bytes_eq r.id (codes "idle")) rows) (limited rows level.0);
       seconds = number_text 31536000 (find (λ r. bytes_eq r.id (codes "idle")) rows) (limited rows level.0);
       flag = flag_value (find (λ r. bytes_eq r.id (codes "stay")) rows) (λ r e. find_row ServeRow (codes "stay") rows r level.0 e);

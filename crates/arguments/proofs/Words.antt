@@ -58,11 +58,11 @@ serve_with_nodes : (name : Text) → refusals (serving name []) ≡ []
 unfolding clap_on_literals
 serve_with_nodes name = refl
 
-serve_with_consoles : (name : Text) → refusals (serving name (codes "--consoles" ∷ codes "64" ∷ [])) ≡ []
+serve_with_consoles : (name : Text) → refusals (serving name (codes "--consoles" ∷ codes "1024" ∷ [])) ≡ []
 unfolding clap_on_literals
 serve_with_consoles name = refl
 
-too_many_consoles : (name : Text) → refusals (serving name (codes "--consoles" ∷ codes "65" ∷ [])) ≡ kind.ValueValidation ∷ []
+too_many_consoles : (name : Text) → refusals (serving name (codes "--consoles" ∷ codes "1025" ∷ [])) ≡ kind.ValueValidation ∷ []
 unfolding clap_on_literals
 too_many_consoles name = refl
 

@@ -14,9 +14,9 @@ one_valued id = record (new_rule id) { long = Some id; action = Some Set; value_
 abbrev pub wanted : Text → Rule
 wanted id = record (one_valued id) { required = true }
 
--- the option for the number of consoles, which takes a number from 1 to 64
+-- the option for the number of consoles, which takes a number from 1 to 1,024
 abbrev pub consoles_rule : Rule
-consoles_rule = record (one_valued (codes "consoles")) { parser = Some (parser.Signed (pos 1) (pos 64)) }
+consoles_rule = record (one_valued (codes "consoles")) { parser = Some (parser.Signed (pos 1) (pos 1024)) }
 
 -- the flag of a server that stays
 abbrev pub stay_rule : Rule
@@ -84,8 +84,8 @@ pub record KnownWords : Type 0 where
   pub serve_without_nodes : (name : Text) → refusals (name ∷ codes "serve" ∷ codes "--listen" ∷ codes "x:1" ∷ [])
       ≡ kind.MissingRequiredArgument ∷ []
   pub serve_with_nodes : (name : Text) → refusals (serving name []) ≡ []
-  pub serve_with_consoles : (name : Text) → refusals (serving name (codes "--consoles" ∷ codes "64" ∷ [])) ≡ []
-  pub too_many_consoles : (name : Text) → refusals (serving name (codes "--consoles" ∷ codes "65" ∷ []))
+  pub serve_with_consoles : (name : Text) → refusals (serving name (codes "--consoles" ∷ codes "1024" ∷ [])) ≡ []
+  pub too_many_consoles : (name : Text) → refusals (serving name (codes "--consoles" ∷ codes "1025" ∷ []))
       ≡ kind.ValueValidation ∷ []
   pub no_consoles : (name : Text) → refusals (serving name (codes "--consoles=0" ∷ [])) ≡ kind.ValueValidation ∷ []
   pub lone_twice : (name : Text) → refusals (serving name (codes "--lone=d" ∷ codes "--lone=e" ∷ []))

@@ -6,7 +6,7 @@ use Rattle.term.specs.declared.faults.TextFault.TheVariants as text
 use Rattle.arguments.specs.declared.faults.ArgFault.{ArgFault}
 use Rattle.arguments.specs.declared.faults.ArgFault.TheVariants.{Options, Words, Text, SameNode, TooManyNodes}
 use Rattle.arguments.specs.declared.faults.OptionFault.{OptionFault}
-use Rattle.arguments.specs.declared.faults.OptionFault.TheVariants.{CookieFile, Idle, Socket, NoCookieFile}
+use Rattle.arguments.specs.declared.faults.OptionFault.TheVariants.{CookieFile, Idle, Socket, Consoles, NoCookieFile}
 
 -- the word that is printed for a text that is refused
 abbrev pub text_word : TextFault → List ℕ
@@ -23,6 +23,7 @@ abbrev pub option_text : OptionFault → List ℕ
 option_text CookieFile = codes "--cookie-file: goes with --stay alone"
 option_text Idle = codes "--idle: goes with --stay alone"
 option_text Socket = codes "--listen unix:PATH: goes with --stay alone"
+option_text Consoles = codes "--consoles: more than 64 go with --stay alone"
 option_text NoCookieFile = codes "--cookie-file: wanted with --stay over TCP; a socket is --listen unix:PATH"
 
 -- the word that is printed for a fault of the nodes; other texts are shown for the others

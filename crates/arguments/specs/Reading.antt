@@ -27,10 +27,10 @@ is_set (Some text) = bytes_eq text (codes "true")
 abbrev pub Counts : ℕ → Bytes → ℕ → Type 0
 Counts most digits n = (1 ≤ n) × (n ≤ most) × (n ≡ digits_value 10 (without_leading_plus digits))
 
--- how many consoles are taken, or served at once where it stays: the number that is given, from 1 to 64; and where none is, 8, or 64 at once
+-- how many consoles are taken, or served at once where it stays: the number that is given, from 1 to 1,024; and where none is, 8, or 64 at once
 abbrev pub CountsConsoles : Bool → Option Bytes → ℕ → Type 0
 CountsConsoles stay None n = n ≡ (if stay then 64 else 8)
-CountsConsoles stay (Some digits) n = Counts 64 digits n
+CountsConsoles stay (Some digits) n = Counts 1024 digits n
 
 -- for how many seconds a console may be silent: the number that is given, from 1 to 31,536,000; and where none is, for ever
 abbrev pub CountsSeconds : Option Bytes → Option ℕ → Type 0
@@ -81,7 +81,7 @@ IsFlagText text = (text ≡ codes "true") ⊎ (text ≡ codes "false")
 pub record HasOptions (rows : List Row) : Type 0 where
   pub listen : is_some (first_of (codes "listen") rows) ≡ true
   pub nodes : is_some (first_of (codes "nodes") rows) ≡ true
-  pub consoles : IfSome (first_of (codes "consoles") rows) (IsSignedIn (pos 1) (pos 64))
+  pub consoles : IfSome (first_of (codes "consoles") rows) (IsSignedIn (pos 1) (pos 1024))
   pub digits : one_of (codes "consoles") rows ≡ option_map without_minus (first_of (codes "consoles") rows)
   pub idle : IfSome (first_of (codes "idle") rows) (IsSignedIn (pos 1) (pos 31536000))
   pub seconds : one_of (codes "idle") rows ≡ option_map without_minus (first_of (codes "idle") rows)

@@ -1,7 +1,7 @@
 -- Which options of `serve` go together.
-use Rattle.std.specs.Prelude.{◌≡◌, ◌≢◌, ℕ, Bool, true, false, List, ◌++◌, codes, Option, Some, None, is_some, string_bytes}
+use Rattle.std.specs.Prelude.{◌≡◌, ◌≢◌, ℕ, Bool, true, false, List, ◌++◌, codes, Option, Some, None, is_some, nat_lt, string_bytes}
 use Rattle.arguments.specs.declared.faults.OptionFault.{OptionFault}
-use Rattle.arguments.specs.declared.faults.OptionFault.TheVariants.{CookieFile, Idle, Socket, NoCookieFile}
+use Rattle.arguments.specs.declared.faults.OptionFault.TheVariants.{CookieFile, Idle, Socket, Consoles, NoCookieFile}
 use Rattle.arguments.specs.declared.task.ServeOptions.{ServeOptions}
 
 -- an address names the socket at this path, or is one of the network
@@ -9,15 +9,17 @@ abbrev pub NamesSocket : List ℕ → Option (List ℕ) → Type 0
 NamesSocket address (Some path) = address ≡ codes "unix:" ++ path
 NamesSocket address None = (path : List ℕ) → address ≢ codes "unix:" ++ path
 
--- the first fault of options, by whether the server stays, has a cookie file, has a limit of silence and listens at a socket
-abbrev pub clash : (stay file limit socket : Bool) → Option OptionFault
-clash false true limit socket = Some CookieFile
-clash false false true socket = Some Idle
-clash false false false true = Some Socket
-clash true false limit false = Some NoCookieFile
-clash stay file limit socket = None
+-- the first fault of options, by whether the server stays, has a cookie file, has a limit of silence, listens at a socket and has more than 64
+-- consoles
+abbrev pub clash : (stay file limit socket many : Bool) → Option OptionFault
+clash false true limit socket many = Some CookieFile
+clash false false true socket many = Some Idle
+clash false false false true many = Some Socket
+clash false false false false true = Some Consoles
+clash true false limit false many = Some NoCookieFile
+clash stay file limit socket many = None
 
 -- the first of the options that doesn't go with the others has this fault, or all go together
 abbrev pub Clashes : ServeOptions → Option OptionFault → Type 0
 Clashes o fault = (socket : Option (List ℕ)) × NamesSocket (string_bytes o.listen) socket
-    × (fault ≡ clash o.stay (is_some o.cookie_file) (is_some o.idle) (is_some socket))
+    × (fault ≡ clash o.stay (is_some o.cookie_file) (is_some o.idle) (is_some socket) (nat_lt 64 o.consoles))

@@ -37,9 +37,9 @@ fn consoles_option<'a>(alloc: Global) -> Arg<'a>
         alloc,
         "consoles",
         "N",
-        "How many consoles are taken before the cluster closes, 1 to 64, as 16; 8 without this option. With --stay, how many are served at once; 64 without this option",
+        "How many consoles are taken before the cluster closes, 1 to 64, as 16; 8 without this option. With --stay, how many are served at once, 1 to 1024; 64 without this option",
     )
-    .value_parser(clap::value_parser!(u8).range(1..=64))
+    .value_parser(clap::value_parser!(u16).range(1..=1024))
 }
 
 /// The flag of a server that stays.

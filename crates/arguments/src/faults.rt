@@ -41,6 +41,8 @@ pub enum OptionFault {
     Idle,
     /// A socket is for a server that stays.
     Socket,
+    /// So many consoles are for a server that stays.
+    Consoles,
     /// A server that stays, and listens at an address of the network, needs a cookie file.
     NoCookieFile,
 }
@@ -84,6 +86,7 @@ impl OptionFault {
             OptionFault::CookieFile => "--cookie-file: goes with --stay alone",
             OptionFault::Idle => "--idle: goes with --stay alone",
             OptionFault::Socket => "--listen unix:PATH: goes with --stay alone",
+            OptionFault::Consoles => "--consoles: more than 64 go with --stay alone",
             OptionFault::NoCookieFile =>
                 "--cookie-file: wanted with --stay over TCP; a socket is --listen unix:PATH",
         }

@@ -12,25 +12,25 @@ use clap::ArgMatches;
 use std::alloc::{AllocError, Global};
 
 /// How many consoles are taken where the words don't tell.
-const CONSOLES: u8 = 8;
+const CONSOLES: u16 = 8;
 
-/// How many consoles are served at once where a server stays and the words don't tell: as many as there are seats.
-const CONSOLES_AT_ONCE: u8 = 64;
+/// How many consoles are served at once where a server stays and the words don't tell.
+const CONSOLES_AT_ONCE: u16 = 64;
 
 /// How many consoles are taken, or served at once where it stays, where the words don't tell.
-fn untold_consoles(stay: bool) -> u8
+fn untold_consoles(stay: bool) -> u16
     ensures { CountsConsoles stay None result }
 {
     if stay { CONSOLES_AT_ONCE } else { CONSOLES }
 }
 
-/// Reads the number of consoles, which clap has looked at before: it is one of 1 to 64 where it is given.
-fn read_consoles(matches: &ArgMatches<'_>, stay: bool) -> u8
+/// Reads the number of consoles, which clap has looked at before: it is one of 1 to 1,024 where it is given.
+fn read_consoles(matches: &ArgMatches<'_>, stay: bool) -> u16
     requires { HasOptions (rows_of (found_of matches.now)) }
     ensures { CountsConsoles stay (first_of (codes "consoles") (rows_of (found_of matches.now))) result }
 {
     matches
-        .get_one::<u8>("consoles")
+        .get_one::<u16>("consoles")
         .unwrap_or(untold_consoles(stay))
 }
 

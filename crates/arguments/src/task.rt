@@ -8,6 +8,9 @@ use term::NodeNames;
 /// What the address begins with where it is the path of a socket.
 const SOCKET: &str = "unix:";
 
+/// How many consoles a server takes that doesn't stay.
+const MOST_TAKEN: u16 = 64;
+
 /// What the program is asked for.
 #[derive(Debug, Drop)]
 pub enum Task {
@@ -26,8 +29,8 @@ pub struct ServeOptions {
     pub cluster: NodeNames,
     /// The nodes that stand alone at the start. None is one of the others, and all are eight at most.
     pub lone: NodeNames,
-    /// How many consoles are taken before the cluster closes, or, where it stays, how many are served at once: from 1 to 64.
-    pub consoles: u8,
+    /// How many consoles are taken before the cluster closes, from 1 to 64; or, where it stays, how many are served at once, from 1 to 1,024.
+    pub consoles: u16,
     /// Whether it stays until it is told to shut down, however many consoles come.
     pub stay: bool,
     /// The file whose first line a client must show.
@@ -60,6 +63,8 @@ impl ServeOptions {
             Some(OptionFault::Idle)
         } else if over_socket {
             Some(OptionFault::Socket)
+        } else if self.consoles > MOST_TAKEN {
+            Some(OptionFault::Consoles)
         } else {
             None
         }

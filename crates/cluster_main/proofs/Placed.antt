@@ -1,21 +1,20 @@
 -- The nodes that two lists name can be started as a cluster.
 use Rattle.std.proofs.Common.{ℕ, suc, ◌≡◌, ◌==◌, ◌||◌, ◌+◌, ◌<◌, ◌≤◌, Bool, true, false, List, [], ◌∷◌, ◌++◌, length, Option, Some, None, refl, sym, ap, ◌∙◌, subst, arith, length-append}
-use Rattle.std.specs.Prelude.{nat_lt, if◌then◌else◌, codes}
-use Rattle.std.specs.List.{AllZip, list_any, slice_split}
+use Rattle.std.specs.Prelude.{nat_lt, codes}
+use Rattle.std.specs.List.{AllZip}
 use Rattle.std.specs.List.Sorted.{IsStrictlyIncreasing}
-use Rattle.std.proofs.lemmas.Bool.{eq-eqb, le-ltb}
+use Rattle.std.proofs.lemmas.Bool.{eq-eqb, le-ltb, or_parts, false≢true}
 use Rattle.std.proofs.lemmas.List.Folds.{list_any-append}
 use Rattle.std.proofs.lemmas.List.Splits.{length-slice_split}
-use Rattle.term.specs.NodeLists.{ListsNodes, SpellsNodes, parts_of, comma}
+use Rattle.term.specs.NodeLists.{SpellsNodes, parts_of, comma}
 use Rattle.term.specs.NodeSets.{set_of, most_nodes}
 use Rattle.term.specs.Spelling.{SpellsNodeName}
 use Rattle.term.proofs.NodeLists.{rising-tail}
-use Rattle.term.proofs.NodeSets.{FitsAt, rises, set_of-fits}
-use Rattle.arguments.specs.Nodes.{PlacesNodes, SpellsLone, shares}
+use Rattle.term.proofs.NodeSets.{rises, set_of-fits}
+use Rattle.arguments.specs.Nodes.{SpellsLone, shares}
 use Rattle.arguments.specs.Reading.{TellsFine, Values}
 use Rattle.arguments.specs.declared.task.ServeOptions.{ServeOptions}
 use Rattle.server.specs.Openings.{repeats, start_refused}
-use Rattle.server.specs.declared.StartFault.{StartFault}
 use Rattle.cluster_main.specs.Serving.{IsReady}
 
 -- the first of rising nodes isn't among the others
@@ -31,15 +30,6 @@ rising-once : (cs : List ℕ) → IsStrictlyIncreasing cs → repeats cs ≡ fal
 rising-once [] up = refl
 rising-once (c ∷ cs) up = rw (head-misses c cs up) (rising-once cs (rising-tail c cs up))
 
--- what a test that fails says of its parts
-left-false : (a b : Bool) → (a || b) ≡ false → a ≡ false
-left-false false b h = refl
-left-false true b h = cc
-
-right-false : (a b : Bool) → (a || b) ≡ false → b ≡ false
-right-false false b h = h
-right-false true b h = cc
-
 -- rising nodes and others that share none with them don't repeat
 apart-once : (cs lone : List ℕ) → IsStrictlyIncreasing cs → IsStrictlyIncreasing lone → shares cs lone ≡ false
     → repeats (cs ++ lone) ≡ false
@@ -48,8 +38,8 @@ apart-once (c ∷ cs) lone up ups apart =
     let misses : set_of (cs ++ lone) c ≡ false =
     list_any-append (λ m. m == c) cs lone
     ∙ ap (λ (b : Bool). b || set_of lone c) (head-misses c cs up)
-    ∙ left-false (set_of lone c) (shares cs lone) apart in
-    let rest = apart-once cs lone (rising-tail c cs up) ups (right-false (set_of lone c) (shares cs lone) apart) in
+    ∙ (or_parts (set_of lone c) (shares cs lone) apart).0 in
+    let rest = apart-once cs lone (rising-tail c cs up) ups (or_parts (set_of lone c) (shares cs lone) apart).1 in
     rw misses rest
 
 -- nodes that don't repeat, and aren't too many, start a cluster where there is one that is joined
@@ -61,15 +51,12 @@ starts (c ∷ cs) lone some once fits =
     le-ltb _ _ (omega (arith, length-append (c ∷ cs) lone, fits)) in
     rw once (rw few refl)
 
-no : false ≡ true → ⊥
-no h = cc
-
 -- a list spells one node at least
 spelled-some : (parts : List (List ℕ)) (names nodes : List ℕ) → 0 < length parts → AllZip SpellsNodeName parts names
     → ((c : ℕ) → set_of nodes c ≡ set_of names c) → 0 < length nodes
 spelled-some [] names nodes some spelled named = absurd (omega (arith, some))
 spelled-some (p ∷ parts) [] nodes some spelled named = absurd spelled
-spelled-some (p ∷ parts) (n ∷ names) [] some spelled named = let here : set_of (n ∷ names) n ≡ true = rw (eq-eqb n n refl) refl in absurd (no (named n ∙ here))
+spelled-some (p ∷ parts) (n ∷ names) [] some spelled named = let here : set_of (n ∷ names) n ≡ true = rw (eq-eqb n n refl) refl in absurd (false≢true (named n ∙ here))
 spelled-some (p ∷ parts) (n ∷ names) (m ∷ nodes) some spelled named = omega arith
 
 some-node : (list nodes : List ℕ) → SpellsNodes list nodes → 0 < length nodes

@@ -1,4 +1,6 @@
 pub use Rattle.command_lines.specs.Printing
+pub use Rattle.node_seats.specs.Callers
+pub use Rattle.node_seats.specs.Knowing
 pub mod Cookies
 pub mod Faults
 pub mod Clients
@@ -13,5 +15,7 @@ pub mod Help
 pub mod Describing
 pub mod Consoles
 pub mod Seats
+pub mod Tries
+pub mod Lent
 pub mod Statuses
 pub mod Fences

@@ -13,7 +13,6 @@ use Rattle.node_seats.specs.declared.Nodes.{Nodes}
 use Rattle.node_seats.specs.declared.Nodes.TheVariants.{All, Named}
 use Rattle.node_seats.specs.declared.Retries.TheVariants.{Endless}
 use Rattle.node_seats.specs.declared.fault.SeatFault.{SeatFault}
-use Rattle.node_seats.specs.declared.fault.SeatFault.TheVariants.{Closed}
 use Rattle.lock_lines.specs.declared.request.Request.{Request}
 
 -- it asks this node, where these are the members
@@ -26,10 +25,10 @@ abbrev pub are_members : Nodes → List ℕ → Bool
 are_members All members = true
 are_members (Named names) members = list_all (λ name. list_any (λ m. name_of m == name) members) names
 
-abbrev pub is_lock_call : Call → Bool
-is_lock_call (SetLock holder id nodes retries) = true
-is_lock_call (DelLock holder id nodes) = true
-is_lock_call _ = false
+-- it asks for a lock
+abbrev pub sets_lock : Call → Bool
+sets_lock (SetLock holder id nodes retries) = true
+sets_lock _ = false
 
 -- it is asked for this lock, of these nodes
 pub record Wants (holder : Process) (id : LockId) (nodes : Nodes) (members : List ℕ) (r : Request) : Type 0 where
@@ -50,8 +49,7 @@ abbrev pub waits_in_line : Call → List ℕ → Bool
 waits_in_line (SetLock holder id nodes Endless) members = are_members nodes members
 waits_in_line _ members = false
 
--- it was granted, or nobody heard what came of it
-abbrev pub may_hold : Result Reply SeatFault → Bool
-may_hold (Ok True) = true
-may_hold (Err Closed) = true
-may_hold _ = false
+-- it was granted
+abbrev pub is_granted : Result Reply SeatFault → Bool
+is_granted (Ok True) = true
+is_granted _ = false

@@ -1,5 +1,5 @@
 -- A seat that answers what lines ask.
-use Rattle.std.specs.Prelude.{ℕ, zero, suc, Bool, ◌≡◌, ◌⊎◌, ⊤, Option, Some, None, Result, Ok, Err}
+use Rattle.std.specs.Prelude.{Bool, ◌≡◌, ◌⊎◌, ⊤, Option, Some, None, Result, Ok, Err}
 use Rattle.command_lines.specs.declared.Reply.{Reply}
 use Rattle.command_lines.specs.declared.Reply.TheVariants as reply
 use Rattle.node_seats.specs.declared.Transcript.{Transcript}
@@ -28,30 +28,17 @@ EndsWait a s (Err f) t = LooksUp (awaited_name a) (Err f) s t ⊎ (IsEnd f × (t
 abbrev pub LooksPast : Awaited → Sitting → Sitting → Type 0
 LooksPast a s t = (owner : Option Process) × LooksUp (awaited_name a) (Ok owner) s t × (met_by a owner ≡ None)
 
--- nor did so many, one after another
-abbrev pub LooksOn : Awaited → ℕ → Sitting → Sitting → Type 0
-LooksOn a zero s t = t ≡ s
-LooksOn a (suc n) s t = (u : Sitting) × LooksPast a s u × LooksOn a n u t
-
--- nor did any so far
-pub record StillWaits (a : Awaited) (s t : Sitting) : Type 0 where
-  pub looks : ℕ
-  pub looked : LooksOn a looks s t
-
--- what came of waiting: no look-up before the last one found what is waited for
-abbrev pub Waited : Awaited → Sitting → Result Reply SeatFault → Sitting → Type 0
-Waited a s r t = (last : Sitting) × StillWaits a s last × EndsWait a last r t
-
 -- What an order was answered: the seat asked its node for just that, once, was told the answer by the node's loop, and it stands last in the
 -- seat's transcript. For a refused one it asked once at most, and the transcript stays. A look-up asks the node for nothing: it is one in a
--- table that the node has shown, and a wait is many of them
+-- table that the node has shown. Nobody waits at a seat alone
 abbrev pub SeatGives : Sitting → Order → Result Reply SeatFault → Sitting → Type 0
 SeatGives s (Call c) (Ok r) t = Answered c r s t
 SeatGives s (Whereis x) (Ok r) t = (owner : Option Process) × (r ≡ owner_reply owner) × LooksUp x (Ok owner) s t
 SeatGives s (Whereis x) (Err f) t = LooksUp x (Err f) s t
 SeatGives s (Exit p) (Ok r) t = (r ≡ reply.Ok) × Done (event.Exit p) Made s t
 SeatGives s Leave (Ok r) t = (r ≡ reply.Ok) × Done event.Leave Left s t
-SeatGives s (Wait a) r t = Waited a s r t
+SeatGives s (Wait a) (Ok r) t = ⊥
+SeatGives s (Wait a) (Err f) t = IsEnd f × (t ≡ s)
 SeatGives s (Call c) (Err f) t = Unanswered f (event.Call c) s t
 SeatGives s (Exit p) (Err f) t = Unanswered f (event.Exit p) s t
 SeatGives s Leave (Err f) t = Unanswered f event.Leave s t

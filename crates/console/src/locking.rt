@@ -1,7 +1,7 @@
 //! What the lock calls of a console ask for, and which of them wait in a line.
 ghost use Rattle.std.specs.Prelude.{◌≡◌, ℕ, MatchOption, None};
 ghost use Rattle.term.specs.NodeSets.{set_of};
-ghost use Rattle.console.specs.Locking.{are_members as all_members, asks, is_lock_call as any_lock_call, IsRequestOf, may_hold as any_may_hold, waits_in_line as any_waits};
+ghost use Rattle.console.specs.Locking.{are_members as all_members, asks, is_granted as any_granted, IsRequestOf, sets_lock as any_sets_lock, waits_in_line as any_waits};
 
 use command_lines::{Call, Reply};
 use lock_lines::Request;
@@ -45,11 +45,11 @@ fn requested(holder: &Pid, id: &LockId, nodes: &Nodes, members: &NodeSet) -> Req
     }
 }
 
-/// Whether a call is one for a lock, or gives one back.
-pub(crate) fn is_lock_call(call: &Call) -> bool
-    ensures { result ≡ any_lock_call call.now }
+/// Whether a call asks for a lock.
+pub(crate) fn sets_lock(call: &Call) -> bool
+    ensures { result ≡ any_sets_lock call.now }
 {
-    matches!(call, Call::SetLock(..) | Call::DelLock(..))
+    matches!(call, Call::SetLock(..))
 }
 
 /// What a lock call asks for, where these are the members of its node. `None`: it is no lock call.
@@ -73,9 +73,9 @@ pub(crate) fn waits_in_line(call: &Call, members: &NodeSet) -> bool
     }
 }
 
-/// Whether a process may have the lock for which it asked, or may get it still: it was granted, or the call was given up at its node.
-pub(crate) fn may_hold(outcome: &Result<Reply, SeatFault>) -> bool
-    ensures { result ≡ any_may_hold outcome.now }
+/// Whether a process has the lock for which it asked.
+pub(crate) fn is_granted(outcome: &Result<Reply, SeatFault>) -> bool
+    ensures { result ≡ any_granted outcome.now }
 {
-    matches!(outcome, Ok(Reply::True) | Err(SeatFault::Closed))
+    matches!(outcome, Ok(Reply::True))
 }

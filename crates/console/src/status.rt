@@ -1,14 +1,16 @@
 //! How a node stands, and the server that serves its consoles.
-ghost use Rattle.std.specs.Prelude.{◌≡◌, ◌++◌, IfOk, OnOk, string_bytes};
+ghost use Rattle.std.specs.Prelude.{◌≡◌, ◌++◌, IfErr, IfOk, OnOk, string_bytes};
+ghost use Rattle.node_seats.specs.Callers.{IsEnd};
 ghost use Rattle.console.specs.declared.status.Load.{Load as AnyLoad};
 ghost use Rattle.console.specs.Statuses.{load_text, node_text, numbers_text, status_line as any_line, status_outcome, standing_word};
 
 use crate::outcomes::seat_line;
 use descriptions::SharedDescriptions;
 use lock_lines::LockLines;
-use node_seats::{NodeStatus, Numbers, SeatFault};
+use node_seats::{ForgottenNotes, NodeStatus, Numbers, Seat, SeatFault};
 use std::alloc::{AllocError, Global};
 use std::fmt::Write as _;
+use term::Node;
 
 /// What a server bears.
 #[derive(Clone, Copy, Debug, PartialEq, Eq)]
@@ -44,6 +46,15 @@ pub trait House<H> {
 
     /// What is said of the processes of its nodes.
     fn descriptions(&self) -> &SharedDescriptions;
+
+    /// Lends a seat of this node, which keeps no transcript, once one is free: those that ask first have one first. It must come back before the
+    /// same console asks for another. `Closed`: it lends none of this node.
+    fn lend(&self, rt: &H, node: &Node) -> Result<Seat<ForgottenNotes>, SeatFault>
+        ensures node { IfOk result (λ seat. seat.node ≡ node.now) }
+        ensures none { IfErr result IsEnd };
+
+    /// Takes a seat back that it has lent.
+    fn take_back(&self, rt: &H, seat: Seat<ForgottenNotes>);
 }
 
 /// The word for whether a node is joined.

@@ -1,8 +1,8 @@
 //! The descriptions of a server's processes.
-ghost use Rattle.std.specs.Prelude.{◌≡◌, [], false, filter, not, MatchResult, OnErr, OnOk, ◌==◌};
-ghost use Rattle.std.specs.BTreeMap.{get, insert_entry, is_at};
+ghost use Rattle.std.specs.Prelude.{◌≡◌, ◌≤◌, [], false, filter, not, MatchResult, OnErr, OnOk, ◌==◌};
+ghost use Rattle.std.specs.BTreeMap.{btree_map_len, get, insert_entry, is_at};
 ghost use Rattle.std.specs.Map.{remove_entry};
-ghost use Rattle.descriptions.specs.Tables.{RefusesMore, lacks_place, process_cmp};
+ghost use Rattle.descriptions.specs.Tables.{RefusesMore, lacks_place, most, process_cmp};
 
 use crate::description::Description;
 use std::alloc::Global;
@@ -25,6 +25,7 @@ pub enum DescriptionFault {
 #[derive(Drop)]
 pub struct Descriptions {
     texts: BTreeMap<Pid, Description>,
+    ghost few: { btree_map_len texts ≤ most },
 }
 
 impl Descriptions {

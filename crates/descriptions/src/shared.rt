@@ -6,6 +6,9 @@ use std::sync::{Mutex, Wait};
 use term::{Node, Pid};
 
 /// What is said of the processes of a server, over all its nodes.
+///
+/// Other threads may change it between two calls, so no clause here tells what was said and found: each call is one of `Descriptions`, which
+/// has the clauses, under the lock. What is so of each table whenever the lock is taken its type says: there are 65,536 descriptions at most.
 #[derive(Drop)]
 pub struct SharedDescriptions {
     table: Mutex<Descriptions>,

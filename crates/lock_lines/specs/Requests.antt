@@ -8,6 +8,10 @@ use Rattle.lock_lines.specs.declared.request.Request.{Request}
 abbrev pub meet : List ℕ → List ℕ → Bool
 meet some others = list_any (λ n. set_of others n) some
 
+-- it asks for this resource at one of these nodes
+abbrev pub asks_for : ℕ → List ℕ → Request → Bool
+asks_for resource nodes r = (r.id.resource == resource) && meet r.nodes nodes
+
 -- both can't be granted at once: one resource, two requesters, a common node
 abbrev pub are_rivals : Request → Request → Bool
 are_rivals r s = (r.id.resource == s.id.resource) && (not (r.id.requester == s.id.requester)) && meet r.nodes s.nodes

@@ -25,7 +25,7 @@ pub struct Grant {
 /// for and isn't answered, so that none is missed.
 #[derive(Drop)]
 pub struct Grants {
-    times: BTreeMap<Grant, u64>,
+    pub(crate) times: BTreeMap<Grant, u64>,
 }
 
 impl Grant {

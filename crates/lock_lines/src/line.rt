@@ -3,11 +3,11 @@ ghost use Rattle.std.specs.Prelude.{◌≡◌, ◌+◌, ◌==◌, ◌++◌, ◌�
 ghost use Rattle.std.specs.List.{list_any};
 ghost use Rattle.lock_lines.specs.Lines.{goes_before as before, has_turn, holder_passes, let_pass_with, may_go};
 
+use crate::bell::Bell;
 use crate::request::Request;
 use std::alloc::{AllocError, Global};
 use std::sync::Arc;
-use std::thread::Parker;
-use term::Pid;
+use term::{NodeSet, Pid, Resource};
 
 /// A lock call that stands in the line of its resource.
 #[derive(Drop)]
@@ -17,8 +17,8 @@ pub(crate) struct LineCall {
     pub(crate) request: Request,
     /// Whether it goes whoever came before it.
     pub(crate) passes: bool,
-    /// Wakes who waits for its turn.
-    pub(crate) bell: Arc<Parker, Global>,
+    /// Wakes who waits for its turn, or for the lock.
+    pub(crate) bell: Arc<Bell, Global>,
 }
 
 /// The lock calls that wait at a server, over all its nodes: those that may go and aren't answered yet, and those whose turn hasn't come.
@@ -73,7 +73,7 @@ impl Line {
         &mut self,
         request: Request,
         passes: bool,
-        bell: Arc<Parker, Global>,
+        bell: Arc<Bell, Global>,
     ) -> Result<u64, AllocError>
         ensures number { IfOk result (λ number. number ≡ self.old.next) }
         ensures next { OnOk result (self.new.next ≡ self.old.next + 1) }
@@ -148,11 +148,36 @@ impl Line {
         }
     }
 
+    /// Tells who may go that a resource was given back at these nodes, where they ask for it at one of them.
+    pub fn tell_free(&self, resource: &Resource, nodes: &NodeSet) {
+        for call in &self.calls {
+            if call.request.asks_for(resource, nodes) {
+                call.bell.tell_free();
+            }
+        }
+    }
+
+    /// Has the calls of a process be tried again, as it is dead.
+    pub fn tell_holder(&self, holder: &Pid) {
+        for call in &self.calls {
+            if call.request.holder == *holder {
+                call.bell.tell_free();
+            }
+        }
+    }
+
+    /// Tells all who may go that any lock may be free.
+    pub fn tell_all(&self) {
+        for call in &self.calls {
+            call.bell.tell_free();
+        }
+    }
+
     /// Wakes all whose turn has come.
     pub fn ring(&self) {
         for call in &self.calls {
             if self.has_turn(call) {
-                call.bell.unpark();
+                call.bell.ring();
             }
         }
     }

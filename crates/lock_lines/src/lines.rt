@@ -1,12 +1,11 @@
 //! The lines of a server, which all its consoles share.
+use crate::bell::Bell;
 use crate::grants::{Grant, Grants};
 use crate::line::Line;
 use crate::request::Request;
 use std::alloc::{AllocError, Global};
 use std::sync::{Arc, Mutex, Wait};
-use std::thread::Parker;
-use std::time::Duration;
-use term::{Node, Pid};
+use term::{Node, NodeSet, Pid};
 
 /// How long who waits for a turn sleeps at most, in milliseconds. A bell ends a sleep; this is how often it is looked whether anybody
 /// waits for the call still.
@@ -35,14 +34,23 @@ pub struct LockLines {
 #[derive(Drop)]
 pub struct Turn {
     number: u64,
-    bell: Arc<Parker, Global>,
+    bell: Arc<Bell, Global>,
 }
 
 impl Turn {
     /// Sleeps until the turn may have come, and for a tenth of a second at most.
     pub fn rest<R: Wait>(&self, rt: &R) {
-        self.bell
-            .park_timeout(rt, Duration::from_millis(LONGEST_SLEEP));
+        self.bell.sleep(rt, LONGEST_SLEEP);
+    }
+
+    /// Sleeps until the lock may be free, and for so many milliseconds at most.
+    pub fn rest_for<R: Wait>(&self, rt: &R, millis: u64) {
+        self.bell.sleep(rt, millis);
+    }
+
+    /// Whether the lock may have become free since this was asked last, as the house has seen it.
+    pub fn was_freed(&self) -> bool {
+        self.bell.was_freed()
     }
 }
 
@@ -74,6 +82,15 @@ fn take_all(grants: &mut Grants, request: &Request, nodes: &[Node]) {
     }
 }
 
+/// Tells who waits for what a process has, as it is dead.
+fn tell_freed_by(grants: &Grants, line: &Line, process: &Pid) {
+    for grant in grants.times.keys() {
+        if grant.holder == *process {
+            line.tell_free(&grant.resource, &NodeSet::one(grant.node.copy()));
+        }
+    }
+}
+
 impl LockLines {
     /// Nobody waits, and nobody has a lock. It takes no memory yet.
     pub fn new(alloc: Global) -> Self {
@@ -88,7 +105,7 @@ impl LockLines {
 
     /// A call enters, behind all that wait.
     pub fn enter<R: Wait>(&self, rt: &R, request: &Request) -> Result<Turn, AllocError> {
-        let bell = Arc::new(self.alloc, Parker::new())?;
+        let bell = Arc::new(self.alloc, Bell::new())?;
         let waiter = Arc::try_clone(&bell)?;
         let mut state = self.state.lock(rt);
         let passes = state.grants.holds(&request.id, &request.nodes);
@@ -99,9 +116,13 @@ impl LockLines {
         })
     }
 
-    /// Whether the turn of a call has come.
+    /// Whether the turn of a call has come. From then on it is told where its lock may be free.
     pub fn has_come<R: Wait>(&self, rt: &R, turn: &Turn) -> bool {
-        self.state.lock(rt).line.may_go(turn.number)
+        let has_come = self.state.lock(rt).line.may_go(turn.number);
+        if has_come {
+            turn.bell.call();
+        }
+        has_come
     }
 
     /// A call leaves, and whose turn has come by that is woken.
@@ -124,17 +145,26 @@ impl LockLines {
         state.line.ring();
     }
 
-    /// A lock was refused, or given back.
+    /// A lock was refused.
     pub fn take_back<R: Wait>(&self, rt: &R, request: &Request) {
         let mut state = self.state.lock(rt);
         take_all(&mut state.grants, request, request.nodes.as_slice());
     }
 
-    /// A process is dead: it has no locks, and its calls needn't wait for their turn to be refused.
+    /// A lock was given back: who may have it next is woken.
+    pub fn give_back<R: Wait>(&self, rt: &R, request: &Request) {
+        let mut state = self.state.lock(rt);
+        take_all(&mut state.grants, request, request.nodes.as_slice());
+        state.line.tell_free(&request.id.resource, &request.nodes);
+    }
+
+    /// A process is dead: it has no locks, which are free now, and its calls needn't wait to be refused.
     pub fn bury<R: Wait>(&self, rt: &R, process: &Pid) {
         let mut state = self.state.lock(rt);
+        tell_freed_by(&state.grants, &state.line, process);
         state.grants.drop_holder(process);
         state.line.let_holder_pass(process);
+        state.line.tell_holder(process);
         state.line.ring();
     }
 
@@ -142,5 +172,11 @@ impl LockLines {
     pub fn forget<R: Wait>(&self, rt: &R, node: &Node) {
         let mut state = self.state.lock(rt);
         state.grants.drop_node(node);
+        state.line.tell_all();
+    }
+
+    /// Processes may have died of which nobody was told, as those that a join has exit: whoever waits for a lock is to try it again.
+    pub fn look_again<R: Wait>(&self, rt: &R) {
+        self.state.lock(rt).line.tell_all();
     }
 }

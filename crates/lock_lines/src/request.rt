@@ -1,8 +1,8 @@
 //! What a lock call asks for.
 ghost use Rattle.std.specs.Prelude.{◌≡◌};
-ghost use Rattle.lock_lines.specs.Requests.{are_rivals as rivals, is_for_more as for_more, meet as have_common};
+ghost use Rattle.lock_lines.specs.Requests.{are_rivals as rivals, asks_for as asked_for, is_for_more as for_more, meet as have_common};
 
-use term::{LockId, NodeSet, Pid};
+use term::{LockId, NodeSet, Pid, Resource};
 
 /// What a lock call asks for: that a process has a lock, at these nodes.
 #[derive(Debug, PartialEq, Eq, Drop)]
@@ -32,6 +32,13 @@ impl Request {
             id: self.id.copy(),
             nodes: self.nodes.copy(),
         }
+    }
+
+    /// Whether it asks for this resource at one of these nodes.
+    pub(crate) fn asks_for(&self, resource: &Resource, nodes: &NodeSet) -> bool
+        ensures { result ≡ asked_for resource.now nodes.now self.now }
+    {
+        self.id.resource == *resource && meet(&self.nodes, nodes)
     }
 
     /// Whether both can't be granted at once: they ask for one resource at a common node, in the names of two requesters.

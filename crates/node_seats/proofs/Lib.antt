@@ -6,5 +6,5 @@ mod Leaving
 mod Granting
 mod Sittings
 pub mod Telling
-mod ShownLengths
+pub mod ShownLengths
 mod Noting

@@ -6,6 +6,7 @@ pub mod Replies
 pub mod Callers
 pub mod Fences
 pub mod Seats
+pub mod Knowing
 pub mod Holders
 pub mod Stops
 pub mod Departures

@@ -1,5 +1,5 @@
 //! How a thread asks a node's thread.
-ghost use Rattle.std.specs.Prelude.{◌≡◌, ◌<◌, ◌≤◌, ◌+◌, ◌^◌, ◌++◌, ◌∷◌, ◌⊎◌, [], length, true, false, IfOk, OnOk, OnErr, IfErr, IfSome, Ok, Err};
+ghost use Rattle.std.specs.Prelude.{◌≡◌, ◌<◌, ◌≤◌, ◌+◌, ◌^◌, ◌++◌, ◌∷◌, ◌⊎◌, [], length, max, true, false, IfOk, OnOk, OnErr, IfErr, IfSome, Ok, Err};
 ghost use Rattle.shared_table.specs.Editions.{HasShown};
 ghost use Rattle.shared_table.specs.Events.{knows_contact as knows};
 ghost use Rattle.shared_table.specs.declared.Event.TheVariants.{Call as Calls};
@@ -14,6 +14,7 @@ use crate::bell::Rest;
 use crate::beside::Beside;
 use crate::fault::SeatFault;
 use crate::hub::{Hub, SLOTS};
+use crate::knowledge::Knowledge;
 use crate::line::Line;
 use crate::place::Place;
 use crate::standing::Standing;
@@ -146,6 +147,26 @@ impl Caller {
         ensures { result ≡ place_of self.now }
     {
         self.place
+    }
+
+    /// How long the log of its node was when it was told of it last, or has read.
+    pub(crate) fn told(&self) -> u64
+        ensures told { result ≡ told_of self.now }
+        ensures shown { HasShown (name_of self.now) (told_of self.now) }
+    {
+        self.reader.told()
+    }
+
+    /// It knows from now on how long a log of its node somebody else knows of.
+    pub(crate) fn learn(&mut self, known: &Knowledge)
+        requires { known.now.node ≡ name_of self.old }
+        ensures place { place_of self.new ≡ place_of self.old }
+        ensures node { name_of self.new ≡ name_of self.old }
+        ensures nodes { nodes_of self.new ≡ nodes_of self.old }
+        ensures line { self.new.line ≡ self.old.line }
+        ensures seen { seen_of self.new ≡ record (seen_of self.old) { told = max (told_of self.old) known.now.told } }
+    {
+        self.reader.learn(known.told());
     }
 
     /// Asks for an event, once, waits until the node has taken it, or refused it, or until whoever stands beside has gone, and gives what

@@ -11,6 +11,7 @@ ghost use Rattle.node_seats.specs.declared.fault.SeatFault.TheVariants.{NoSuchNo
 ghost use Rattle.node_seats.specs.Callers.{name_of, nodes_of, IsEnd};
 ghost use Rattle.node_seats.specs.Faults.{IsAskRefused, IsUnmade};
 ghost use Rattle.node_seats.specs.Fences.{HasGranted, fence_of};
+ghost use Rattle.node_seats.specs.Knowing.{known_at, with_known};
 
 use crate::asking::Given;
 use crate::beside::{Beside, Nobody};
@@ -18,6 +19,7 @@ use crate::caller::Caller;
 use crate::calls::copied_call;
 use crate::fault::SeatFault;
 use crate::fences::{fence_of, granted_after, sets_lock};
+use crate::knowledge::Knowledge;
 use crate::notes::{KeptNotes, Notes};
 use crate::told::NodeStatus;
 use shared_table::{Call, Event, Reply, SeatEntry, Transcript, WorldEvent};
@@ -114,6 +116,23 @@ impl<T: Notes> Seat<T> {
         ensures { result.now ≡ self.now.node }
     {
         self.caller.node()
+    }
+
+    /// What is known here of its node, and by which step it was granted a lock last, so that another seat of the node may know it, too.
+    pub fn knowledge(&self) -> Knowledge
+        ensures { result ≡ known_at self.now }
+    {
+        Knowledge::of(self.caller.node().copy(), self.caller.told(), self.granted)
+    }
+
+    /// It is lent to who knows this of its node, from another of its seats: it looks names up in no older table, and was granted a lock last by
+    /// the step that he was, or none.
+    pub fn learn(&mut self, known: &Knowledge)
+        requires { known.now.node ≡ self.old.node }
+        ensures { self.new ≡ with_known known.now self.old }
+    {
+        self.caller.learn(known);
+        self.granted = known.granted();
     }
 
     /// Calls the node, once, and waits for the reply, which the node's loop told this seat. The call and its answer then stand last in

@@ -1,9 +1,8 @@
 -- Whether a thread ended alone, by why its turns ended and whether its node had left.
-use Rattle.std.proofs.Common.{ℕ, zero, suc, Bool, true, false, ◌≡◌, ◌<◌, List, [], ◌∷◌, ◌++◌, length, refl, sym, subst, ◌∙◌, ◌⊎◌, inl, inr, arith}
+use Rattle.std.proofs.Common.{ℕ, zero, suc, Bool, true, false, ◌≡◌, List, [], ◌∷◌, refl, sym, subst, ◌∙◌, ◌⊎◌, inl, inr, arith}
 use Rattle.std.specs.Prelude.{All, Contains}
 use Rattle.std.proofs.lemmas.List.Elements.{Contains-append_right}
 use Rattle.std.proofs.lemmas.Option.{slice_get-get_or, get_or_from_slice_get}
-use Rattle.node_loop.specs.Held.{Looping}
 use Rattle.node_loop.specs.Coming.{IsLoopOf}
 use Rattle.node_seats.specs.declared.host.Stop.{Stop}
 use Rattle.node_seats.specs.declared.host.Stop.TheVariants.{Asked, Failed}

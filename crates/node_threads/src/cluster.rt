@@ -102,7 +102,8 @@ where
     /// Starts a thread for each node: those of `cluster` are joined with each other, and each of `lone` stands for itself. It is
     /// refused as `World::start` is, in the same order; `Memory` also where a thread can't be had. The gate is held before each
     /// turn of a node. A thread that finds nothing to do yields `yields` times at most, and for 200 microseconds or so, before it
-    /// sleeps. The steps of all nodes have stamps above `stamp`.
+    /// sleeps. The loops of all nodes begin with `stamp`. The clauses say of a loop that a thread leaves behind that the stamps of its
+    /// steps are above the one that it began with, and not that this is the one.
     pub fn start<R>(
         rt: &R,
         alloc: Global,

@@ -1,5 +1,5 @@
 //! What came into the inboxes of nodes, once their threads have ended.
-ghost use Rattle.std.specs.Prelude.{◌≡◌, ◌<◌, length, map, All};
+ghost use Rattle.std.specs.Prelude.{◌≡◌, ◌<◌, map, All};
 ghost use Rattle.link.specs.Mailboxes.{taken, mailbox_room};
 ghost use Rattle.node_seats.specs.Addresses.{inbox_at};
 ghost use Rattle.node_threads.specs.Drawing.{Compares, CompareAll, AllCompared};

@@ -15,7 +15,7 @@ pub(crate) struct Shared<G: Gate + Drop> {
     pub(crate) hub: Arc<Hub, Global>,
     /// How often a thread, or a caller, yields at most before it sleeps.
     pub(crate) yields: u32,
-    /// The steps of its nodes have stamps above this one.
+    /// The loops of its nodes begin with this stamp.
     pub(crate) stamp: u64,
 }
 

@@ -3,6 +3,7 @@ mod Leaving
 mod Doors
 mod Joining
 mod Closing
-mod Reseating
+mod GivingOut
 mod Posting
+mod Lending
 mod Welcoming

@@ -14,7 +14,7 @@ use Rattle.server.specs.declared.staying.notes.Note.TheVariants.{Taken, Parted, 
 use Rattle.server.specs.declared.staying.notes.Supply.{Supply}
 use Rattle.server.specs.declared.staying.notes.Supply.TheVariants.{Calls, Serials}
 use Rattle.server.specs.declared.staying.notes.Parting.{Parting}
-use Rattle.server.specs.declared.staying.notes.Parting.TheVariants.{Quit, Input, Shutdown, Unseated, Read, Write, Lines, Memory}
+use Rattle.server.specs.declared.staying.notes.Parting.TheVariants.{Quit, Input, Shutdown, Read, Write, Lines, Memory}
 
 -- how a console ended that was served
 abbrev pub parting_of : Result ConsoleEnd StreamFault → Parting
@@ -46,7 +46,6 @@ abbrev pub parting_word : Parting → List ℕ
 parting_word Quit = codes "quit"
 parting_word Input = codes "input"
 parting_word Shutdown = codes "shutdown"
-parting_word Unseated = codes "unseated"
 parting_word Read = codes "read"
 parting_word Write = codes "write"
 parting_word Lines = codes "lines"

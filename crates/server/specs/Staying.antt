@@ -1,5 +1,5 @@
 -- What serving a cluster comes to that stays until a console asks for its end.
-use Rattle.std.specs.Prelude.{ℕ, Bool, ◌≡◌, ◌+◌, ◌⊎◌, min, is_ok, All, length, List, [], ◌∷◌, ◌++◌, codes, Option, Some, None, Result, Ok, Err}
+use Rattle.std.specs.Prelude.{ℕ, zero, suc, Bool, ◌≡◌, ◌==◌, ◌+◌, ◌/◌, ◌⊎◌, if◌then◌else◌, min, is_ok, All, length, List, [], ◌∷◌, ◌++◌, codes, Option, Some, None, Result, Ok, Err}
 use Rattle.std.specs.Global.{Global}
 use Rattle.std.specs.declared.thread.PromisedHandle.{PromisedHandle}
 use Rattle.std.specs.Io.KnownBytes.{Appends, Keeps}
@@ -12,7 +12,8 @@ use Rattle.node_threads.specs.declared.ending.EndFault.{EndFault}
 use Rattle.node_threads.specs.declared.ending.EndFault.TheVariants as untold
 use Rattle.node_threads.specs.Wires.{IsCrew}
 use Rattle.node_threads.specs.Seating.{no_seats}
-use Rattle.node_threads.specs.Clusters.{Crewed, nodes_in, seats_more, seats_fewer}
+use Rattle.node_threads.specs.Clusters.{Crewed, nodes_in, seats_more}
+use Rattle.node_threads.specs.Seats.{Sitting}
 use Rattle.node_threads.specs.Ending.{EndIs}
 use Rattle.text_lines.specs.Writing.{AppendsPart}
 use Rattle.server.specs.declared.faults.StayFault.{StayFault}
@@ -34,16 +35,24 @@ end_line (Err fault) = error_line (end_text fault)
 abbrev pub Ending : Type 0
 Ending = Result (EndedCluster Table Global) EndFault
 
--- what a cluster is after seats were given out and taken back: for each in turn none, or the slot of the one that came back
-abbrev pub reseated : List (Option ℕ) → Crewed → Crewed
-reseated [] c = c
-reseated (None ∷ turns) c = reseated turns (seats_more c)
-reseated (Some slot ∷ turns) c = reseated turns (seats_fewer slot c)
+-- what a cluster is after it gave out so many seats
+abbrev pub seated : ℕ → Crewed → Crewed
+seated zero c = c
+seated (suc n) c = seats_more (seated n c)
 
--- seats of a cluster were given out and taken back, and nothing else of it changed
-pub record Reseats (c d : Crewed) : Type 0 where
-  pub turns : List (Option ℕ)
-  pub is : d ≡ reseated turns c
+-- seats of a cluster were given out, and nothing else of it changed
+pub record GivesOut (c d : Crewed) : Type 0 where
+  pub many : ℕ
+  pub is : d ≡ seated many c
+
+-- how many seats each of so many nodes has that a server lends: 64 are parted evenly
+abbrev pub share : ℕ → ℕ
+share nodes = if nodes == 0 then 0 else 64 / nodes
+
+-- these are so many seats of this node
+pub record AreSeatsOf (node many : ℕ) (seats : List Sitting) : Type 0 where
+  pub at : All (λ s. s.node ≡ node) seats
+  pub counted : length seats ≡ many
 
 -- these are the nodes of the cluster: those that are joined with each other, and those that stand for themselves
 abbrev pub AreAll : List ℕ → Crewed → Type 0
@@ -77,24 +86,22 @@ TellsEnd c old new (Err Write) = (ending : Ending) × Ends c ending × AppendsPa
 TellsEnd c old new (Err Memory) = Keeps old new
 TellsEnd c old new (Err Start) = ⊥
 
--- the writer got this first line from a cluster whose threads are all there; then seats were given out and taken back until it ended, and
--- the writer got the line that tells so. Where it failed it got a part, of the first line or behind it; for the last one memory may be
--- refused
+-- the writer got this first line from a cluster whose threads are all there, and then the line that tells how it ended. Where it failed it
+-- got a part, of the first line or behind it; for the last one memory may be refused
 abbrev pub StaysRunning : Crewed → List ℕ → Option (List ℕ) → Option (List ℕ) → Result Bool StayFault → Type 0
-StaysRunning c first old new (Ok good) = (last : Crewed) × Reseats c last × (ending : Ending) × Ends last ending
-    × (good ≡ is_ok ending) × Appends old new (first ++ end_line ending)
+StaysRunning c first old new (Ok good) = (ending : Ending) × Ends c ending × (good ≡ is_ok ending) × Appends old new (first ++ end_line ending)
 StaysRunning c first old new (Err Write) = AppendsPart old new first
-    ⊎ ((last : Crewed) × Reseats c last × (ending : Ending) × Ends last ending × AppendsPart old new (first ++ end_line ending))
+    ⊎ ((ending : Ending) × Ends c ending × AppendsPart old new (first ++ end_line ending))
 StaysRunning c first old new (Err Memory) = Appends old new first
 StaysRunning c first old new (Err Start) = ⊥
 
--- A cluster of these nodes gave out its seats, from the first on, and took them back, and ended so
+-- A cluster of these nodes gave out seats, from the first on, and ended so
 pub record EndsAfter (cluster lone : List ℕ) (ending : Ending) : Type 0 where
   pub first : Crewed
   pub crew : IsCrew cluster lone first.crew
   pub unused : first.seating ≡ no_seats
   pub last : Crewed
-  pub seats : Reseats first last
+  pub seats : GivesOut first last
   pub of : (last.cluster ≡ cluster) × (last.lone ≡ lone) × (last.crew ≡ first.crew)
   pub ends : Ends last ending
 

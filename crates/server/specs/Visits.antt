@@ -1,8 +1,7 @@
 -- One console of a cluster that stays, from its greeting to its end.
 use Rattle.std.specs.Prelude.{ℕ, true, ◌≡◌, ◌⊎◌, List, [], ◌∷◌, Option, Some, None, Result, Ok, Err, IfOk, MatchResult}
 use Rattle.std.specs.Io.KnownBytes.{Appends}
-use Rattle.node_threads.specs.Seats.{Sitting}
-use Rattle.node_threads.specs.declared.SeatFault.{SeatFault}
+use Rattle.console.specs.Knowing.{Known, nothing_known}
 use Rattle.text_lines.specs.Lines.{LosesLines}
 use Rattle.text_lines.specs.Writing.{AppendsPart}
 use Rattle.text_lines.specs.declared.faults.StreamFault.{StreamFault}
@@ -11,29 +10,19 @@ use Rattle.console.specs.declared.faults.GreetFault.{GreetFault}
 use Rattle.console.specs.declared.faults.GreetFault.TheVariants.{TooManyConsoles}
 use Rattle.console.specs.Consoles.{EndsBy, Stops, most_staying}
 use Rattle.console.specs.Greetings.{Greets, GreetStops, HasNoFirst, LineAttaches, ReadsFirst, ShowsFirst, StopsFirst, greeting_text, okay}
-use Rattle.console.specs.Seats.{SeatAnswers, SeatStands}
+use Rattle.console.specs.Lent.{LentAnswers, LentStands}
 use Rattle.server.specs.declared.staying.notes.Parting.{Parting}
-use Rattle.server.specs.declared.staying.notes.Parting.TheVariants.{Unseated}
-use Rattle.server.specs.Attending.{IsUnseated}
 use Rattle.server.specs.Notes.{parting_of}
 
--- it was served at some seat of this node, until it ended so
+-- it was served at this node, at seats that were lent for what it asked, until it ended so
 pub record IsServedAt (node : ℕ) (input rest old new : Option (List ℕ)) (parting : Parting) : Type 0 where
-  pub seat : Sitting
-  pub at : seat.node ≡ node
-  pub left : Sitting
+  pub known : Known
   pub ended : Result ConsoleEnd StreamFault
-  pub talks : MatchResult ended (EndsBy SeatAnswers SeatStands true most_staying input rest old new seat left)
-      (Stops SeatAnswers SeatStands true most_staying input rest old new seat left)
+  pub talks : MatchResult ended (EndsBy LentAnswers LentStands true most_staying input rest old new (nothing_known node) known)
+      (Stops LentAnswers LentStands true most_staying input rest old new (nothing_known node) known)
   pub parted : parting ≡ parting_of ended
 
--- so, or it got no seat, and was told why, or a part of that
-abbrev pub IsHosted : ℕ → Option (List ℕ) → Option (List ℕ) → Option (List ℕ) → Option (List ℕ) → Parting → Type 0
-IsHosted node input rest old new parting =
-    IsServedAt node input rest old new parting
-    ⊎ ((fault : SeatFault) × IsUnseated input rest old new fault × (parting ≡ Unseated))
-
--- it was greeted, showed the cookie if there is one, and was attached to one of these nodes, at which it had its seat
+-- it was greeted, showed the cookie if there is one, and was attached to one of these nodes, at which it was served
 pub record IsGuest (cookie : Option (List ℕ)) (nodes : List ℕ) (input rest old new : Option (List ℕ)) : Type 0 where
   pub node : ℕ
   pub unread : Option (List ℕ)
@@ -41,7 +30,7 @@ pub record IsGuest (cookie : Option (List ℕ)) (nodes : List ℕ) (input rest o
   pub parting : Parting
   pub greeted : Greets cookie nodes input unread old written (Some node)
   pub shown : ShowsFirst cookie input unread
-  pub hosted : IsHosted node unread rest written new parting
+  pub served : IsServedAt node unread rest written new parting
 
 -- what a first line was to be answered is answered, but where it attaches a console there may be no place for that
 abbrev pub IsPlaced : Result ℕ GreetFault → Result ℕ GreetFault → Type 0

@@ -1,7 +1,7 @@
 //! Serving a cluster until a console asks for its end.
 ghost use Rattle.std.specs.Prelude.{◌≡◌, None, IfOk, string_bytes};
 ghost use Rattle.node_threads.specs.Openings.{start_refused};
-ghost use Rattle.server.specs.Staying.{AreAll, Serve, StaysCluster, StaysRunning, TellsEnd};
+ghost use Rattle.server.specs.Staying.{AreAll, GivesOut, Serve, StaysCluster, StaysRunning, TellsEnd};
 
 mod descriptors;
 mod desk;
@@ -14,6 +14,7 @@ mod moment;
 mod notes;
 mod office;
 mod options;
+mod seats;
 mod staff;
 pub(crate) mod stream;
 mod worker;
@@ -28,8 +29,9 @@ pub use crate::staying::lookout::{Lookout, Spent};
 use crate::staying::memory::resident;
 use crate::staying::moment::microseconds;
 pub use crate::staying::options::StayOptions;
-use crate::staying::staff::Staff;
-use node_threads::OpenGate;
+use crate::staying::seats::Seats;
+use crate::staying::staff::{Staff, workers_for};
+use node_threads::{OpenGate, SeatFault};
 use std::alloc::Global;
 use std::fs::Files;
 use std::io::Write;
@@ -78,7 +80,7 @@ where
 fn serve<R, W, E>(
     rt: &R,
     alloc: Global,
-    mut cluster: StayingCluster,
+    cluster: StayingCluster,
     nodes: &NodeSet,
     staff: Staff,
     listening: &str,
@@ -95,7 +97,7 @@ where
 {
     match tell(writer, listening.as_bytes()) {
         Ok(()) => {
-            stay(rt, alloc, &mut cluster, nodes, &staff, errors);
+            stay(rt, alloc, &cluster, nodes, &staff, errors);
             end(rt, alloc, cluster, staff, writer, errors)
         }
         Err(_) => {
@@ -105,12 +107,32 @@ where
     }
 }
 
+/// The threads that serve the consoles of a cluster of these nodes, by all of its seats.
+fn hire<R>(
+    rt: &R,
+    alloc: Global,
+    entry: Entry,
+    cluster: &mut StayingCluster,
+    nodes: &NodeSet,
+    options: StayOptions,
+) -> Result<Staff, SeatFault>
+where
+    R: Threads + Wait + Clock + Files + Drop + Copy + Send + Sync + 'static,
+    ensures seats { GivesOut cluster.old cluster.new }
+    ensures served { IfOk result (λ staff. Serve nodes.now staff.threads.items) }
+{
+    let seats = Seats::of(alloc, cluster, nodes, workers_for(options.consoles))?;
+    let staff = Staff::start(rt, alloc, entry, nodes.copy(), seats, options, resident(rt))?;
+    Ok(staff)
+}
+
 /// Runs a cluster of threads and serves consoles until one of them asks for the end by the line `shutdown`: those of `cluster` are
-/// joined with each other, and each of `lone` stands for itself. As many consoles are attached at once as the options say, and others are told
-/// `error too_many_consoles`; with none at all nobody can ask for the end. A connection counts for none of them before its first line has let
-/// it in: sixteen more are served at once, each in a thread of its own. Each console has a seat while it lasts, behind a first line that shows
-/// the cookie, if there is one. The nodes keep none of their steps, whose stamps begin with the microseconds of the system's clock at the start.
-/// A connection that couldn't be taken ends nothing. What happens is told on `errors`, whose faults are passed over.
+/// joined with each other, and each of `lone` stands for itself. As many consoles are attached at once as the options say, and others are
+/// told `error too_many_consoles`; with none at all nobody can ask for the end. A connection counts for none of them before its first line
+/// has let it in: sixteen more are served at once, each in a thread of its own. Behind a first line that shows the cookie, if there is one,
+/// a console is lent one of the cluster's seats for each thing that it asks. The nodes keep none of their steps, whose stamps begin with the
+/// microseconds of the system's clock at the start. A connection that couldn't be taken ends nothing. What happens is told on `errors`,
+/// whose faults are passed over.
 ///
 /// Once all its threads are there it is told for how many consoles the descriptors serve, if they are too few, and the line `listening` is
 /// written. At the end connections are ended, calls that wait are answered `closed`,
@@ -136,13 +158,13 @@ where
     ensures { StaysCluster cluster.now lone.now listening.now (W.contents writer.old) (W.contents writer.new) result }
 {
     let begin = microseconds(rt);
-    let Ok(running) = StayingCluster::start(rt, alloc, cluster, lone, OpenGate, YIELDS, begin)
+    let Ok(mut running) = StayingCluster::start(rt, alloc, cluster, lone, OpenGate, YIELDS, begin)
     else {
         return Err(StayFault::Start);
     };
     let nodes = set_of_all(cluster, lone);
     let short = shortage(entry.fd(), options.consoles);
-    match Staff::start(rt, alloc, entry, nodes.copy(), options, resident(rt)) {
+    match hire(rt, alloc, entry, &mut running, &nodes, options) {
         Ok(staff) => {
             tell_if(alloc, errors, short);
             serve(rt, alloc, running, &nodes, staff, listening, writer, errors)

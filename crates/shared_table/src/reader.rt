@@ -108,6 +108,13 @@ impl ReaderFactory {
 }
 
 impl TableReader {
+    /// The length of the node's log that it was told of, or has read.
+    pub fn told(&self) -> u64
+        ensures { result ≡ self.now.told }
+    {
+        self.told
+    }
+
     /// It is told that the node's log has this length: a look-up answers from no shorter one then.
     pub fn learn(&mut self, length: u64)
         ensures { self.new ≡ record self.old { told = max self.old.told length } }

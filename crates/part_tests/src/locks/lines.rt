@@ -1,8 +1,7 @@
 //! Lines of lock calls that wait at a server, and what it counts of grants.
-use lock_lines::{Grant, Grants, Line, LockLines, Request, Turn};
+use lock_lines::{Bell, Grant, Grants, Line, LockLines, Request, Turn};
 use std::alloc::{AllocError, Global};
 use std::sync::{Arc, Wait};
-use std::thread::Parker;
 use term::{LockId, Node, NodeSet, Pid, Requester, Resource, parse_node};
 
 /// What is asked for by a process of a node, in the name of another node, of these nodes.
@@ -22,7 +21,7 @@ fn request(node: &Node, serial: u32, requester: &Node, nodes: &NodeSet) -> Reque
 
 /// A call for it enters a line: its number there.
 fn enter(alloc: Global, line: &mut Line, request: Request) -> Result<u64, AllocError> {
-    let bell = Arc::new(alloc, Parker::new())?;
+    let bell = Arc::new(alloc, Bell::new())?;
     line.enter(request, false, bell)
 }
 
@@ -171,6 +170,38 @@ fn follows<R: Wait>(
     waits && passes && lines.has_come(rt, second)
 }
 
+/// Whether the only call in line, whose turn has come, is told once that its lock may be free, for each cause: another has given a lock back at a
+/// node of its own, or has died, or a node has left, or anything may be free. It isn't told where the other was refused.
+fn is_told<R: Wait>(rt: &R, lines: &LockLines, turn: &Turn, other: &Request) -> bool {
+    let untold = !turn.was_freed() && lines.has_come(rt, turn);
+    let asked = lines.ask(rt, other).is_ok();
+    lines.take_back(rt, other);
+    let refused = turn.was_freed();
+    lines.give_back(rt, other);
+    let given_back = turn.was_freed() && !turn.was_freed();
+    let asked_again = lines.ask(rt, other).is_ok();
+    lines.bury(rt, &other.holder);
+    let dead = turn.was_freed();
+    lines.forget(rt, &other.holder.node);
+    let left = turn.was_freed();
+    lines.look_again(rt);
+    untold && asked && !refused && given_back && asked_again && dead && left && turn.was_freed()
+}
+
+/// Whether a call is told so that is for a lock of two nodes, of one at the first of them.
+fn hears_of_free_locks<R: Wait>(rt: &R, alloc: Global, a: &Node, b: &Node) -> bool {
+    let lines = LockLines::new(alloc);
+    match lines.enter(rt, &request(a, 2, a, &both(a, b))) {
+        Ok(turn) => is_told(
+            rt,
+            &lines,
+            &turn,
+            &request(a, 1, b, &NodeSet::one(a.copy())),
+        ),
+        Err(_) => false,
+    }
+}
+
 /// Whether two calls do so in new lines.
 fn come_in_turn<R: Wait>(rt: &R, alloc: Global, a: &Node, b: &Node) -> bool {
     let lines = LockLines::new(alloc);
@@ -192,6 +223,7 @@ fn calls_go_in_the_order_in_which_they_came(rt: HostRuntime) {
             assert!(rt; go_in_turn(rt.alloc(), &a, &b));
             assert!(rt; counts_grants(rt.alloc(), &a, &b));
             assert!(rt; come_in_turn(&rt, rt.alloc(), &a, &b));
+            assert!(rt; hears_of_free_locks(&rt, rt.alloc(), &a, &b));
         }
         _ => assert!(rt; false),
     }

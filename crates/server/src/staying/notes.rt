@@ -21,8 +21,6 @@ pub(crate) enum Parting {
     Input,
     /// By the line `shutdown`.
     Shutdown,
-    /// There was no seat for it.
-    Unseated,
     /// A line couldn't be read.
     Read,
     /// An answer couldn't be written.
@@ -92,7 +90,6 @@ impl Parting {
             Parting::Quit => "quit",
             Parting::Input => "input",
             Parting::Shutdown => "shutdown",
-            Parting::Unseated => "unseated",
             Parting::Read => "read",
             Parting::Write => "write",
             Parting::Lines => "lines",

@@ -1,17 +1,18 @@
 //! What the threads of a server that stays work with.
-use crate::staying::desk::{Message, SeatAnswer};
+use crate::staying::desk::Message;
 use crate::staying::hall::{Guest, Hall};
 use crate::staying::notes::Note;
 use crate::staying::options::StayOptions;
+use crate::staying::seats::{ForgetfulSeat, Seats};
 use console::{House, Load};
-use crossbeam_channel::{Receiver, Sender, bounded};
+use crossbeam_channel::{Receiver, Sender};
 use descriptions::SharedDescriptions;
 use lock_lines::LockLines;
-use node_threads::{Seat, SeatFault};
+use node_threads::SeatFault;
 use std::alloc::{AllocError, Global};
 use std::sync::atomic::{AtomicU64, Ordering};
 use std::sync::{Arc, Mutex, Wait};
-use term::{NodeName, NodeSet};
+use term::{Node, NodeSet};
 
 /// What each thread of a server works with.
 #[derive(Drop)]
@@ -28,6 +29,8 @@ pub(crate) struct Office<R: Wait + Drop + Copy> {
     pub(crate) lines: Arc<LockLines, Global>,
     /// What is said of processes, over all nodes.
     pub(crate) descriptions: Arc<SharedDescriptions, Global>,
+    /// The seats that are lent to consoles.
+    pub(crate) seats: Arc<Seats, Global>,
     /// Connections that wait for the worker that was engaged for them.
     pub(crate) guests: Receiver<Guest>,
     pub(crate) desk: Sender<Message>,
@@ -45,6 +48,7 @@ impl<R: Wait + Drop + Copy> Office<R> {
         let memory = Arc::try_clone(&self.memory)?;
         let lines = Arc::try_clone(&self.lines)?;
         let descriptions = Arc::try_clone(&self.descriptions)?;
+        let seats = Arc::try_clone(&self.seats)?;
         let guests = self.guests.clone()?;
         let desk = self.desk.clone()?;
         Ok(Office {
@@ -56,6 +60,7 @@ impl<R: Wait + Drop + Copy> Office<R> {
             memory,
             lines,
             descriptions,
+            seats,
             guests,
             desk,
         })
@@ -80,33 +85,6 @@ impl<R: Wait + Drop + Copy> Office<R> {
     pub(crate) fn note(&self, note: Note) {
         self.say(Message::Tell(note));
     }
-
-    /// What the desk answered who asked for a seat at the node of this name. Of what comes over a channel no more is known than its type
-    /// says, so it is looked at whether the seat is of that node: one of another, which the desk never sends, goes back.
-    fn checked(&self, node: &NodeName, answer: SeatAnswer) -> SeatAnswer
-        ensures { IfOk result (λ seat. seat.node ≡ node.now) }
-    {
-        let seat = answer?;
-        if seat.node().is_first_of(node) {
-            return Ok(seat);
-        }
-        self.say(Message::Back(seat));
-        Err(SeatFault::NoSuchNode)
-    }
-
-    /// Asks the desk for a seat at the node of this name, and waits for it.
-    pub(crate) fn seat(&self, node: &NodeName) -> SeatAnswer
-        ensures { IfOk result (λ seat. seat.node ≡ node.now) }
-    {
-        let Ok((desk, seats)) = bounded(self.alloc, 1) else {
-            return Err(SeatFault::Memory);
-        };
-        self.say(Message::Ask(node.copy(), desk));
-        match seats.recv(&self.rt) {
-            Ok(answer) => self.checked(node, answer),
-            Err(_) => Err(SeatFault::Closed),
-        }
-    }
 }
 
 impl<R: Wait + Drop + Copy> House<R> for Office<R> {
@@ -126,5 +104,13 @@ impl<R: Wait + Drop + Copy> House<R> for Office<R> {
 
     fn descriptions(&self) -> &SharedDescriptions {
         &self.descriptions
+    }
+
+    fn lend(&self, rt: &R, node: &Node) -> Result<ForgetfulSeat, SeatFault> {
+        self.seats.lend(rt, node)
+    }
+
+    fn take_back(&self, rt: &R, seat: ForgetfulSeat) {
+        self.seats.take_back(rt, seat);
     }
 }

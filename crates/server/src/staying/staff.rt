@@ -9,6 +9,7 @@ use crate::staying::door::Door;
 use crate::staying::hall::{Guest, Hall};
 use crate::staying::office::Office;
 use crate::staying::options::StayOptions;
+use crate::staying::seats::Seats;
 use crate::staying::worker::Worker;
 use crossbeam_channel::{Receiver, RecvTimeoutError, Sender, bounded};
 use descriptions::SharedDescriptions;
@@ -142,20 +143,21 @@ where
 }
 
 /// How many workers there are where so many consoles may be attached at once.
-fn workers_for(consoles: u32) -> u32
+pub(crate) fn workers_for(consoles: u32) -> u32
     ensures { result ≡ workers_for consoles }
 {
     consoles.saturating_add(ENTRANCES)
 }
 
 impl Staff {
-    /// Starts the workers for so many consoles, each of which serves these nodes, and the door of this entry. So much memory the process has
-    /// then. Where a thread can't be had, those that were started have ended.
+    /// Starts the workers for so many consoles, each of which serves these nodes by these seats, and the door of this entry. So much memory
+    /// the process has then. Where a thread can't be had, those that were started have ended.
     pub(crate) fn start<R>(
         rt: &R,
         alloc: Global,
         entry: Entry,
         nodes: NodeSet,
+        seats: Seats,
         options: StayOptions,
         memory: u64,
     ) -> Result<Self, AllocError>
@@ -180,6 +182,7 @@ impl Staff {
             memory: Arc::try_clone(&memory)?,
             lines: Arc::new(alloc, LockLines::new(alloc))?,
             descriptions: Arc::new(alloc, SharedDescriptions::new(alloc))?,
+            seats: Arc::new(alloc, seats)?,
             guests,
             desk,
         };
@@ -212,7 +215,7 @@ impl Staff {
     {
         for _ in rt.forever() {
             match self.messages.recv_timeout(rt, Duration::from_millis(GRACE)) {
-                Ok(message) => dismiss(rt, alloc, message, errors),
+                Ok(message) => dismiss(alloc, message, errors),
                 Err(RecvTimeoutError::Timeout) => self.hall.lock(rt).cut(),
                 Err(RecvTimeoutError::Disconnected) => break,
             }

@@ -1,28 +1,28 @@
 //! The thread that serves one connection after another.
 ghost use Rattle.std.specs.Io.Buffered.{reader_remaining};
 ghost use Rattle.std.specs.Prelude.{MatchOption};
-ghost use Rattle.server.specs.Visits.{IsHeard, IsHosted, IsLetIn, IsPlaced, IsSentAway, IsTurnedAway, IsUnheard, IsWelcomed, Visits};
+ghost use Rattle.server.specs.Visits.{IsHeard, IsLetIn, IsPlaced, IsSentAway, IsServedAt, IsTurnedAway, IsUnheard, IsWelcomed, Visits};
 
-use crate::staying::desk::{Message, farewell};
+use crate::staying::desk::farewell;
 use crate::staying::first_line::FirstLine;
 use crate::staying::hall::{Connection, Guest};
 use crate::staying::notes::{Note, Parting};
 use crate::staying::office::Office;
 use crate::staying::staff::Duty;
 use crate::staying::stream::Stream;
-use console::{GreetFault, answer_first, read_first, refuse_seat, serve_staying};
+use console::{GreetFault, answer_first, read_first, serve_staying};
 use std::alloc::Global;
 use std::io::{BufReader, BufWriter, Read, Write};
 use std::sync::atomic::{AtomicBool, Ordering};
 use std::sync::{Arc, Wait};
 use std::time::{Clock, Duration};
-use term::{NodeName, NodeSet};
+use term::{Node, NodeName, NodeSet};
 use text_lines::hand_on;
 
 /// For how many seconds an answer waits for its reader.
 const PATIENCE: u64 = 10;
 
-/// Serves connections, one after another, each at a seat that the desk gives it.
+/// Serves connections, one after another, by seats that the server lends them.
 #[derive(Drop)]
 pub(crate) struct Worker<R: Wait + Clock + Drop + Copy> {
     pub(crate) office: Office<R>,
@@ -194,8 +194,7 @@ impl<R: Wait + Clock + Drop + Copy> Worker<R> {
         }
     }
 
-    /// Serves a console at a seat at its node, and gives that back; or tells it why there is none. A call of it that waits for a lock
-    /// waits no longer than its client is there.
+    /// Serves a console at its node. A lock or a name is waited for no longer than its client is there.
     fn serve<I: Read, O: Write>(
         &self,
         reader: &mut BufReader<I, Global>,
@@ -203,29 +202,19 @@ impl<R: Wait + Clock + Drop + Copy> Worker<R> {
         stream: &Stream,
         node: &NodeName,
     ) -> Parting
-        ensures { IsHosted node.now (reader_remaining I.remaining reader.old) (reader_remaining I.remaining reader.new)
+        ensures { IsServedAt node.now (reader_remaining I.remaining reader.old) (reader_remaining I.remaining reader.new)
             (O.contents writer.old) (O.contents writer.new) result }
     {
-        match self.office.seat(node) {
-            Ok(seat) => {
-                let (ended, seat) = serve_staying(
-                    &self.office.rt,
-                    self.office.alloc,
-                    reader,
-                    writer,
-                    seat,
-                    stream,
-                    &self.office,
-                );
-                self.office.say(Message::Back(seat));
-                Parting::of(&ended)
-            }
-            Err(fault) => {
-                // The console ends, whether it hears this or not.
-                let _ = refuse_seat(writer, &fault);
-                Parting::Unseated
-            }
-        }
+        let ended = serve_staying(
+            &self.office.rt,
+            self.office.alloc,
+            reader,
+            writer,
+            Node::first(node.copy()),
+            stream,
+            &self.office,
+        );
+        Parting::of(&ended)
     }
 
     /// Tells the desk how a console has ended, and that it asked for the end of the server, if it did.

@@ -1,7 +1,7 @@
 //! Consoles at seats of running clusters: readers and writers that fail at each point, two consoles that have one seat, and lock
 //! calls whose client goes while they wait.
 use crate::plays::Small;
-use clients::{Home, Leaver, Listener};
+use clients::{ForgetfulSeat, Home, Leaver, Listener};
 use console::{Client, ConsoleEnd, ConsoleFault, serve, serve_staying};
 use failing_streams::{Full, Torn};
 use node_threads::{Seat, Transcript};
@@ -79,7 +79,7 @@ pub(crate) enum Talk {
     Torn(usize),
     /// All, by a console whose writer has room for so many bytes of the answers.
     Full(usize),
-    /// One console, and then another at the same seat.
+    /// One console, and then another that is lent the same seat.
     InTurn,
     /// Lock calls that wait, whose clients go.
     Waits,
@@ -194,49 +194,57 @@ fn is_end(found: Result<ConsoleEnd, ConsoleFault>, wanted: ConsoleEnd) -> bool {
     }
 }
 
-/// Whether a console of a server that stays, at a seat, answers lines with this text, and ends so; and the seat.
+/// Whether a console of a server that stays, which is lent this seat, answers lines with this text, and ends so; and the seat, if it came back.
 fn hold<H: Wait + Clock, C: Client + Drop>(
     rt: &H,
     alloc: Global,
-    seat: Seat,
+    seat: ForgetfulSeat,
     client: C,
     lines: &[u8],
     text: &[u8],
     wanted: ConsoleEnd,
-) -> (bool, Seat) {
+) -> (bool, Option<ForgetfulSeat>) {
     match BufReader::new(alloc, Cursor::new(lines)) {
         Ok(mut reader) => {
             let mut written = Vec::new(alloc);
-            let home = Home::new(alloc);
-            let (result, seat) = serve_staying(
-                rt,
-                alloc,
-                &mut reader,
-                &mut written,
-                seat,
-                client,
-                &home,
-            );
-            (is_end(result, wanted) && written.as_slice() == text, seat)
+            let node = seat.node().copy();
+            let home = Home::new(alloc, seat);
+            let result = serve_staying(rt, alloc, &mut reader, &mut written, node, client, &home);
+            (
+                is_end(result, wanted) && written.as_slice() == text,
+                home.take_seat(rt),
+            )
         }
-        Err(_) => (false, seat),
+        Err(_) => (false, Some(seat)),
     }
 }
 
-/// Whether two consoles that have a seat, one after the other, are answered as they should be, and what both were told is kept.
+/// Whether two consoles that are lent this seat, one after the other, are answered as they should be, and it comes back.
+fn hold_in_turn<H: Wait + Clock>(rt: &H, alloc: Global, seat: ForgetfulSeat) -> bool {
+    let lines = b"spawn\nset_lock a.1 r q all 0\nspawn_link\nquit\n".as_slice();
+    let text = b"a.1\ntrue\na.2\nok\n".as_slice();
+    let (first, seat) = hold(rt, alloc, seat, Listener, lines, text, ConsoleEnd::Quit);
+    let Some(seat) = seat else {
+        return false;
+    };
+    // It was granted no lock, though another was at this seat.
+    let lines = b"fence\nexit a.1\nexit a.2\nspawn\nshutdown\nspawn\n".as_slice();
+    let text = b"error no_grant\nok\nerror already_exited\na.3\nok\n".as_slice();
+    let (second, seat) = hold(rt, alloc, seat, Listener, lines, text, ConsoleEnd::Shutdown);
+    first && second && seat.is_some()
+}
+
+/// Whether two consoles are answered so at a new seat of a node.
 fn holds_twice<H: Wait + Clock>(
     rt: &H,
     alloc: Global,
-    seat: Seat,
-    told: &mut Vec<Transcript>,
+    cluster: &mut Small,
+    node: &NodeName,
 ) -> bool {
-    let lines = b"spawn\nspawn_link\nquit\n".as_slice();
-    let text = b"a.1\na.2\nok\n".as_slice();
-    let (first, seat) = hold(rt, alloc, seat, Listener, lines, text, ConsoleEnd::Quit);
-    let lines = b"exit a.1\nexit a.2\nspawn\nshutdown\nspawn\n".as_slice();
-    let text = b"ok\nerror already_exited\na.3\nok\n".as_slice();
-    let (second, seat) = hold(rt, alloc, seat, Listener, lines, text, ConsoleEnd::Shutdown);
-    keeps(told, seat.into_transcript(), 5) && first && second
+    match cluster.forgetful_seat(node) {
+        Ok(seat) => hold_in_turn(rt, alloc, seat),
+        Err(_) => false,
+    }
 }
 
 /// Whether a console of this client, at a new seat of a node, answers lines with this text. The seat is given back.
@@ -249,11 +257,16 @@ fn answers<H: Wait + Clock, C: Client + Drop>(
     lines: &[u8],
     text: &[u8],
 ) -> bool {
-    match cluster.seat(node) {
+    match cluster.forgetful_seat(node) {
         Ok(seat) => {
             let (is_due, seat) = hold(rt, alloc, seat, client, lines, text, ConsoleEnd::Input);
-            cluster.give_back(seat);
-            is_due
+            match seat {
+                Some(seat) => {
+                    cluster.give_back(seat);
+                    is_due
+                }
+                None => false,
+            }
         }
         Err(_) => false,
     }
@@ -372,8 +385,7 @@ impl Talk {
             Talk::Whole => is_answered(rt, alloc, seat, told),
             Talk::Torn(count) => is_torn(rt, alloc, seat, first_of(LINES, count), told),
             Talk::Full(room) => is_full(rt, alloc, seat, first_of(TEXT, room), told),
-            Talk::InTurn => holds_twice(rt, alloc, seat, told),
-            Talk::Waits => false,
+            Talk::InTurn | Talk::Waits => false,
         }
     }
 
@@ -386,8 +398,10 @@ impl Talk {
         node: &NodeName,
         told: &mut Vec<Transcript>,
     ) -> bool {
-        if matches!(self, Talk::Waits) {
-            return waits_no_longer(rt, alloc, cluster, node);
+        match self {
+            Talk::InTurn => return holds_twice(rt, alloc, cluster, node),
+            Talk::Waits => return waits_no_longer(rt, alloc, cluster, node),
+            Talk::Whole | Talk::Torn(_) | Talk::Full(_) => {}
         }
         match cluster.seat(node) {
             Ok(seat) => self.is_held(rt, alloc, seat, told),

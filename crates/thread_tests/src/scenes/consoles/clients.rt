@@ -1,10 +1,15 @@
-//! Clients at the other end of a console.
+//! Clients at the other end of a console, and a house for it.
+ghost use Rattle.std.specs.Prelude.{◌≡◌, IfErr, IfOk};
+ghost use Rattle.console.specs.Callers.{IsEnd};
+
 use console::{Client, House, Load, Peer};
 use descriptions::SharedDescriptions;
 use lock_lines::LockLines;
+use node_threads::{ForgottenNotes, Seat, SeatFault};
 use std::alloc::Global;
-use std::sync::Arc;
 use std::sync::atomic::{AtomicU32, Ordering};
+use std::sync::{Arc, Mutex, Wait};
+use term::Node;
 
 /// A client that listens.
 #[derive(Drop)]
@@ -16,23 +21,45 @@ impl Client for Listener {
     }
 }
 
-/// A server of five consoles.
+/// A seat that keeps no transcript.
+pub(super) type ForgetfulSeat = Seat<ForgottenNotes>;
+
+/// A server of five consoles, which lends one seat.
 #[derive(Drop)]
 pub(super) struct Home {
     lines: LockLines,
     descriptions: SharedDescriptions,
+    seat: Mutex<Option<ForgetfulSeat>>,
 }
 
 impl Home {
-    pub(super) fn new(alloc: Global) -> Self {
+    /// One that lends this seat.
+    pub(super) fn new(alloc: Global, seat: ForgetfulSeat) -> Self {
         Home {
             lines: LockLines::new(alloc),
             descriptions: SharedDescriptions::new(alloc),
+            seat: Mutex::new(Some(seat)),
+        }
+    }
+
+    /// The seat, unless it is lent.
+    pub(super) fn take_seat<H: Wait>(&self, rt: &H) -> Option<ForgetfulSeat> {
+        self.seat.lock(rt).take()
+    }
+
+    /// The seat, if it is one of this node.
+    fn seat_of<H: Wait>(&self, rt: &H, node: &Node) -> Result<ForgetfulSeat, SeatFault>
+        ensures node { IfOk result (λ seat. seat.node ≡ node.now) }
+        ensures none { IfErr result IsEnd }
+    {
+        match self.take_seat(rt) {
+            Some(seat) if *seat.node() == *node => Ok(seat),
+            _ => Err(SeatFault::Closed),
         }
     }
 }
 
-impl<H> House<H> for Home {
+impl<H: Wait> House<H> for Home {
     ghost use Rattle.std.specs.Prelude.{⊤};
 
     ghost bears = { λ _ _. ⊤ };
@@ -50,6 +77,14 @@ impl<H> House<H> for Home {
 
     fn descriptions(&self) -> &SharedDescriptions {
         &self.descriptions
+    }
+
+    fn lend(&self, rt: &H, node: &Node) -> Result<ForgetfulSeat, SeatFault> {
+        self.seat_of(rt, node)
+    }
+
+    fn take_back(&self, rt: &H, seat: ForgetfulSeat) {
+        *self.seat.lock(rt) = Some(seat);
     }
 }
 
