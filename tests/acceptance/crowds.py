@@ -22,14 +22,19 @@ MOST = 1024
 DESCRIPTORS = 2 * MOST + 200
 # How often each of a crowd does the same.
 ROUNDS = 10
+# How many seconds one half of a crowd comes before the other.
+HEAD_START = 3
 
 
 def attached(served, many, nodes="a"):
     """So many consoles, at these nodes by turns."""
     parts = nodes.split(",")
-    consoles = [Console(served) for _ in range(many)]
-    for at, it in enumerate(consoles):
+    consoles = []
+    for at in range(many):
+        # Its first line comes at once: who is silent for ten seconds is let go, and a slow machine may need as long for all the others.
+        it = Console(served)
         expect_same("an answer", b"ok", hears(it, attach(node=parts[at % len(parts)]), served.seconds))
+        consoles.append(it)
     return consoles
 
 
@@ -95,23 +100,37 @@ def waiters_of_many_locks_hold_nobody_up(program):
         shut_down(served, holder, served.seconds)
 
 
+def next_holder(waiters, seconds):
+    """Who of these is told next that it has the lock for which all wait. Nobody else is, for as long as it has it."""
+    listen_to(waiters, lambda: any(it.next_line() is not None for it in waiters), seconds)
+    told = [it for it in waiters if it.next_line() is not None]
+    if len(told) != 1:
+        raise Failure(f"of all that wait for one lock {len(told)} are told at once that they have it")
+    is_told(told[0], b"true", seconds)
+    return told[0]
+
+
 def one_lock_goes_through_a_crowd(program, nodes):
-    """All of a crowd wait for one lock, and have it in the order in which they came, each while the one before is killed."""
+    """All of a crowd wait for one lock, and have it one by one, each when the one before is killed: first all who came first."""
     with served_to(program, nodes) as served:
         crowd = attached(served, CROWD, nodes)
-        for at, it in enumerate(crowd):
-            hears(it, b"spawn_link", served.seconds)
-            it.say(b"set_lock self r w%d all infinity\n" % at)
-            # Each is in the line before the next one comes.
-            time.sleep(0.02)
-        for it, behind in zip(crowd, crowd[1:]):
-            is_told(it, b"true", served.seconds)
-            if behind.heard:
-                raise Failure("two have one lock")
-            it.go()
-        last = crowd[-1]
-        is_told(last, b"true", served.seconds)
-        shut_down(served, last, served.seconds)
+        halves = crowd[: CROWD // 2], crowd[CROWD // 2 :]
+        for half in halves:
+            for it in half:
+                hears(it, b"spawn_link", served.seconds)
+                it.say(b"set_lock self r w%d all infinity\n" % crowd.index(it))
+            # Each of this half is in the line before one of the other comes. Nothing tells of a line, so which of a half is in it first isn't
+            # asked.
+            time.sleep(HEAD_START)
+        waiters = crowd
+        for at in range(CROWD):
+            holder = next_holder(waiters, served.seconds)
+            if holder not in halves[at // len(halves[0])]:
+                raise Failure("who came seconds later has the lock first")
+            waiters = [it for it in waiters if it is not holder]
+            if waiters:
+                holder.go()
+        shut_down(served, holder, served.seconds)
 
 
 def shutdown_ends_a_crowd(program, nodes):
