@@ -10,7 +10,6 @@ ghost use Rattle.node_seats.specs.Faults.{IsAskRefused, MayAsk};
 ghost use Rattle.node_seats.specs.Fences.{HasLogged};
 ghost use Rattle.node_seats.specs.Replies.{IsToldTo, IsFaultTold, HasLeft};
 
-use crate::beside::{Beside, Nobody};
 use crate::caller::Caller;
 use crate::fault::SeatFault;
 use shared_table::{Answer, Call, Effect, Event};
@@ -28,12 +27,7 @@ pub(crate) struct Given {
 
 impl Caller {
     /// Asks for a call, and gives its answer, which stands in the node's log. It is refused as `ask` is.
-    pub(crate) fn call<R: Wait + Clock, B: Beside>(
-        &mut self,
-        rt: &R,
-        call: Call,
-        beside: &B,
-    ) -> Result<Given, SeatFault>
+    pub(crate) fn call<R: Wait + Clock>(&mut self, rt: &R, call: Call) -> Result<Given, SeatFault>
         ensures place { place_of self.new ≡ place_of self.old }
         ensures node { name_of self.new ≡ name_of self.old }
         ensures inbox { inbox_of self.new ≡ inbox_of self.old }
@@ -47,7 +41,7 @@ impl Caller {
         ensures refused { IfErr result (λ fault. IsFaultTold (name_of self.old) (ticket_of self.old) fault (told_of self.new)) }
         ensures learns { Learns (seen_of self.old) (seen_of self.new) }
     {
-        match self.ask(rt, Event::Call(call), beside)? {
+        match self.ask(rt, Event::Call(call))? {
             Effect::Answered(stamp, answer) => Ok(Given { stamp, answer }),
             // No call comes to anything else.
             _ => Err(SeatFault::Closed),
@@ -66,7 +60,7 @@ impl Caller {
         ensures refused { IfErr result (λ fault. IsFaultTold (name_of self.old) (ticket_of self.old) fault (told_of self.new)) }
         ensures learns { Learns (seen_of self.old) (seen_of self.new) }
     {
-        match self.ask(rt, Event::Exit(process.copy()), &Nobody)? {
+        match self.ask(rt, Event::Exit(process.copy()))? {
             Effect::Made => Ok(()),
             // No exit comes to anything else.
             _ => Err(SeatFault::Closed),
@@ -87,7 +81,7 @@ impl Caller {
         ensures refused { IfErr result (λ fault. IsFaultTold (name_of self.old) (ticket_of self.old) fault (told_of self.new)) }
         ensures learns { Learns (seen_of self.old) (seen_of self.new) }
     {
-        match self.ask(rt, Event::Leave, &Nobody)? {
+        match self.ask(rt, Event::Leave)? {
             Effect::Left => Ok(()),
             // No leave comes to anything else.
             _ => Err(SeatFault::Closed),

@@ -1,5 +1,5 @@
 //! How a thread sleeps while it finds nothing to do, and how others wake it.
-ghost use Rattle.std.specs.Prelude.{◌≡◌, ◌<◌, IfOk, MatchBool};
+ghost use Rattle.std.specs.Prelude.{◌≡◌, IfOk};
 
 use std::alloc::{AllocError, Global};
 use std::sync::{Arc, Wait};
@@ -143,13 +143,6 @@ impl Rest {
     fn is_watching(&self) -> bool {
         let longest = Duration::from_micros(LONGEST_WATCH);
         self.wary == 0 && self.yielded < self.yields && self.watched <= longest
-    }
-
-    /// Whether the thread has slept since the last turn that found something.
-    pub(crate) fn has_slept(&self) -> bool
-        ensures { MatchBool result (0 < self.now.slept) (self.now.slept ≡ 0) }
-    {
-        self.slept > 0
     }
 
     /// How long a thread naps, in microseconds, that is to try something again.

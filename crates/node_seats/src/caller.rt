@@ -11,7 +11,6 @@ ghost use Rattle.node_seats.specs.Replies.{IsToldTo, IsFaultTold};
 
 use crate::address::Address;
 use crate::bell::Rest;
-use crate::beside::Beside;
 use crate::fault::SeatFault;
 use crate::hub::{Hub, SLOTS};
 use crate::knowledge::Knowledge;
@@ -169,17 +168,11 @@ impl Caller {
         self.reader.learn(known.told());
     }
 
-    /// Asks for an event, once, waits until the node has taken it, or refused it, or until whoever stands beside has gone, and gives what
-    /// came of it. A contact that isn't of the cluster is refused at once, also where the node has left. What came of it, and what the
-    /// node refuses, its loop told this caller for this event; where no reply comes any more, or isn't waited for, the event may have
-    /// been asked for. Its number is above those of all that the caller put before, since numbers never fall, and rise behind each event
-    /// that is put.
-    pub fn ask<R: Wait + Clock, B: Beside>(
-        &mut self,
-        rt: &R,
-        event: Event,
-        beside: &B,
-    ) -> Result<Effect, SeatFault>
+    /// Asks for an event, once, waits until the node has taken it, or refused it, and gives what came of it. A contact that isn't of the
+    /// cluster is refused at once, also where the node has left. What came of it, and what the node refuses, its loop told this caller for
+    /// this event; where no reply comes any more the event may have been asked for. Its number is above those of all that the caller put
+    /// before, since numbers never fall, and rise behind each event that is put.
+    pub fn ask<R: Wait + Clock>(&mut self, rt: &R, event: Event) -> Result<Effect, SeatFault>
         ensures place { place_of self.new ≡ place_of self.old }
         ensures node { name_of self.new ≡ name_of self.old }
         ensures nodes { nodes_of self.new ≡ nodes_of self.old }
@@ -199,16 +192,11 @@ impl Caller {
         if !event.knows_contact(self.hub.nodes()) {
             return Err(SeatFault::NoSuchNode);
         }
-        known_outcome(self.ask_node(rt, event, beside))
+        known_outcome(self.ask_node(rt, event))
     }
 
     /// Asks the node for an event, whose contact is of the cluster.
-    fn ask_node<R: Wait + Clock, B: Beside>(
-        &mut self,
-        rt: &R,
-        event: Event,
-        beside: &B,
-    ) -> Result<Effect, SeatFault>
+    fn ask_node<R: Wait + Clock>(&mut self, rt: &R, event: Event) -> Result<Effect, SeatFault>
         ensures place { place_of self.new ≡ place_of self.old }
         ensures node { name_of self.new ≡ name_of self.old }
         ensures nodes { nodes_of self.new ≡ nodes_of self.old }
@@ -233,7 +221,7 @@ impl Caller {
             event,
         };
         self.send(rt, Item::Task(task))?;
-        self.outcome(rt, ticket, beside)
+        self.outcome(rt, ticket)
     }
 
     /// Looks a name up in the table that the node's thread published last. It asks the node for nothing, and waits for nobody. `NodeLeft`:
@@ -381,8 +369,8 @@ impl Caller {
     }
 
     /// Takes a reply up, if one lies there: what it says of a ticket. The node's readers were shown all that it had shown then, and so the
-    /// table is read from there on. A reply to another, which this caller or an earlier one with its slot has given up, is dropped: it may
-    /// be of another node, and tells nothing of this one's table.
+    /// table is read from there on. A reply to another, which an earlier caller with its slot waited for last, is dropped: it may be of
+    /// another node, and tells nothing of this one's table.
     fn take_up<R: Wait>(&mut self, rt: &R, ticket: Ticket) -> Option<Result<Effect, TaskFault>>
         ensures place { place_of self.new ≡ place_of self.old }
         ensures node { name_of self.new ≡ name_of self.old }
@@ -420,14 +408,8 @@ impl Caller {
         }
     }
 
-    /// Waits for what comes of a ticket, and gives it up where whoever stands beside has gone. Who that is is asked only behind a sleep:
-    /// most replies come before.
-    fn outcome<R: Wait + Clock, B: Beside>(
-        &mut self,
-        rt: &R,
-        ticket: Ticket,
-        beside: &B,
-    ) -> Result<Effect, SeatFault>
+    /// Waits for what comes of a ticket.
+    fn outcome<R: Wait + Clock>(&mut self, rt: &R, ticket: Ticket) -> Result<Effect, SeatFault>
         ensures place { place_of self.new ≡ place_of self.old }
         ensures node { name_of self.new ≡ name_of self.old }
         ensures nodes { nodes_of self.new ≡ nodes_of self.old }
@@ -441,9 +423,6 @@ impl Caller {
         for _ in rt.forever() {
             if let Some(effect) = self.find(rt, ticket)? {
                 return Ok(effect);
-            }
-            if self.rest.has_slept() && beside.has_gone() {
-                return Err(SeatFault::Closed);
             }
             self.rest.rest(rt, false);
         }

@@ -98,8 +98,8 @@ impl Hub {
         self.slots[slot as usize].bell.rest(yields)
     }
 
-    /// Lays a reply down for its caller, and wakes it. A reply that still lies there is one to a call that its caller has given up, unless
-    /// it is one to a later ticket with that slot: then this one comes too late, and is dropped.
+    /// Lays a reply down for its caller, and wakes it. A reply that still lies there is one that an earlier caller with that slot waits for
+    /// no more, unless it is one to a later ticket: then this one comes too late, and is dropped.
     pub(crate) fn lay<R: Wait>(&self, rt: &R, reply: Laid) {
         if let Some(slot) = self.slots.get(reply.slot() as usize) {
             slot.lay(rt, reply);

@@ -53,8 +53,8 @@ impl Laid {
         self.reply.ticket.slot
     }
 
-    /// Whether it is to an earlier ticket than the reply that lies in their slot: that seat has been given back, or has given the call up
-    /// and made another, and this reply comes too late.
+    /// Whether it is to an earlier ticket than the reply that lies in their slot: that seat has been given back, and this reply comes too
+    /// late.
     pub(crate) fn comes_late(&self, lying: &Laid) -> bool
         ensures { result ≡ is_late self.now.reply lying.now.reply }
     {
@@ -69,7 +69,7 @@ impl Laid {
         self.length
     }
 
-    /// What it says, where this node told it to the owner of this ticket. Any other is one to a call that was given up.
+    /// What it says, where this node told it to the owner of this ticket. Any other is one to an earlier owner of its slot.
     pub(crate) fn outcome(self, node: &Node, ticket: Ticket) -> Option<Result<Effect, TaskFault>>
         ensures told { IfSome result (λ outcome. IsToldTo node.now ticket outcome self.length) }
         ensures shown { IfSome result (λ _. HasShown node.now self.length) }

@@ -7,7 +7,6 @@
 mod address;
 mod asking;
 mod bell;
-mod beside;
 mod caller;
 mod calls;
 mod fault;
@@ -28,7 +27,6 @@ mod standing;
 mod told;
 
 pub use address::Address;
-pub use beside::{Beside, Nobody};
 pub use caller::Caller;
 pub use fault::SeatFault;
 pub use free_seat::FreeSeat;

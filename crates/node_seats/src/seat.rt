@@ -14,7 +14,6 @@ ghost use Rattle.node_seats.specs.Fences.{HasGranted, fence_of};
 ghost use Rattle.node_seats.specs.Knowing.{known_at, with_known};
 
 use crate::asking::Given;
-use crate::beside::{Beside, Nobody};
 use crate::caller::Caller;
 use crate::calls::copied_call;
 use crate::fault::SeatFault;
@@ -137,26 +136,10 @@ impl<T: Notes> Seat<T> {
 
     /// Calls the node, once, and waits for the reply, which the node's loop told this seat. The call and its answer then stand last in
     /// the transcript, which nothing else changes. `Memory`: nothing was asked, and the seat has nothing else against the call; or it was
-    /// asked, and the reply is a list of names or notices. `NodeLeft`: the node has left. `NoSuchNode`: the contact of a join isn't of the cluster. `Step`: the node refuses the call.
-    /// `Closed`: the node's thread ended without a leave, or the cluster was closed; whether the call was made then isn't known.
+    /// asked, and the reply is a list of names or notices. `NodeLeft`: the node has left. `NoSuchNode`: the contact of a join isn't of the
+    /// cluster. `Step`: the node refuses the call. `Closed`: the node's thread ended without a leave, or the cluster was closed; whether the
+    /// call was made then isn't known.
     pub fn call<R: Wait + Clock>(&mut self, rt: &R, call: Call) -> Result<Reply, SeatFault>
-        ensures ok { IfOk result (λ reply. Answered call reply self.old self.new) }
-        ensures err { IfErr result (λ fault. Unanswered fault (Calls call) self.old self.new) }
-        ensures stranger { knows self.old.nodes (Calls call) ≡ false → result ≡ Err NoSuchNode }
-        ensures known { IfErr result (λ fault. IsAskRefused fault (knows self.old.nodes (Calls call))) }
-    {
-        self.call_beside(rt, call, &Nobody)
-    }
-
-    /// Calls the node as `call` does, but waits no longer than whoever the call is made for is there: `Closed` then, and whether the call
-    /// was made isn't known. The node goes on with it: a lock call that was given up may be granted later, unless its process exits
-    /// before. The seat may call and exit again at once: a reply to what was given up is dropped.
-    pub fn call_beside<R: Wait + Clock, B: Beside>(
-        &mut self,
-        rt: &R,
-        call: Call,
-        beside: &B,
-    ) -> Result<Reply, SeatFault>
         ensures ok { IfOk result (λ reply. Answered call reply self.old self.new) }
         ensures err { IfErr result (λ fault. Unanswered fault (Calls call) self.old self.new) }
         ensures stranger { knows self.old.nodes (Calls call) ≡ false → result ≡ Err NoSuchNode }
@@ -165,7 +148,7 @@ impl<T: Notes> Seat<T> {
         let sets = sets_lock(&call);
         let noted = prepared(&mut self.notes, &self.caller, &call)?;
         let event = self.event(Event::Call(noted));
-        let given = self.caller.call(rt, call, beside)?;
+        let given = self.caller.call(rt, call)?;
         let reply = given.answer.reply.copy()?;
         self.granted = granted_after(sets, &given, self.granted);
         let Given { answer, .. } = given;

@@ -42,9 +42,9 @@ pub use ending::{EndFault, EndedCluster};
 pub use fairness::nobody_starves;
 pub use node_loop::{ForgottenLog, Gate, Log, OpenGate, Record, StartFault};
 pub use node_seats::{
-    Beside, Call, ForgottenNotes, FreeSeat, HolderSeat, KeptNotes, Line, MOST_SEATS, NameList,
-    Nobody, NodeStatus, Nodes, Notes, Notice, NoticeList, Numbers, Parcel, Reply, Retries, Seat,
-    SeatFault, StepFault, Transcript,
+    Call, ForgottenNotes, FreeSeat, HolderSeat, KeptNotes, Line, MOST_SEATS, NameList, NodeStatus,
+    Nodes, Notes, Notice, NoticeList, Numbers, Parcel, Reply, Retries, Seat, SeatFault, StepFault,
+    Transcript,
 };
 pub use replay::{CloseFault, Closed, HistoryEntry, KeptEntry};
 pub use ruled_end::{RuledEnd, Traffic};

@@ -10,7 +10,7 @@ use Rattle.node_seats.specs.Fences.{HasLogged, grants}
 use Rattle.node_seats.specs.Seats.{Sitting}
 use Rattle.node_seats.proofs.Granting.{granted_so, granted_at}
 use Rattle.node_seats.proofs.Sittings.{answered_so, called}
-use Rattle.node_seats.proofs.seat.Seat.call_beside.Goals as goal
+use Rattle.node_seats.proofs.seat.Seat.call.Goals as goal
 
 pub returns-clause-ok : goal.returns-clause-ok
 returns-clause-ok g c =
