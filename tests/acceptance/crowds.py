@@ -20,8 +20,8 @@ CROWD = 150
 # How many consoles a server serves at most, and how many descriptors a test of so many needs, for either end of each and for all else.
 MOST = 1024
 DESCRIPTORS = 2 * MOST + 200
-# How often each of a crowd does the same.
-ROUNDS = 10
+# How often each of a crowd does the same: on a slow machine that has other work a name call of a crowd takes tens of milliseconds.
+ROUNDS = 3
 # How many seconds one half of a crowd comes before the other.
 HEAD_START = 3
 
