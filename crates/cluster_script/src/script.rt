@@ -1,6 +1,5 @@
 //! Scripts, line by line.
-ghost use Rattle.std.specs.Prelude.{◌≡◌, ◌&&◌, ◌++◌, ◌∷◌, [], ◌≤◌, Some, Ok, Err, true, MatchResult, IfOk, option_map, map, List, ℕ};
-ghost use Rattle.std.specs.Io.KnownBytes.{Keeps};
+ghost use Rattle.std.specs.Prelude.{◌≡◌, ◌&&◌, [], ◌≤◌, Some, Ok, Err, true, MatchResult, IfOk, map, List, ℕ};
 ghost use Rattle.std.specs.Io.Buffered.{reader_remaining};
 ghost use Rattle.protocol_model.specs.NamedEvents as script;
 ghost use Rattle.command_lines.specs.NodeEventsSeen.{answer_of as any_answer};

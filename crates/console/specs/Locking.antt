@@ -1,9 +1,9 @@
 -- What lock calls ask for, and which of them wait in a line.
-use Rattle.std.specs.Prelude.{ℕ, Bool, true, false, ◌≡◌, ◌&&◌, ◌==◌, List, Option, Some, None, Result, Ok, Err}
+use Rattle.std.specs.Prelude.{ℕ, Bool, true, false, ◌≡◌, ◌&&◌, ◌==◌, List, Option, Some, None, Result, Ok}
 use Rattle.std.specs.List.{list_any, list_all}
 use Rattle.registry_model.specs.Process.{Process}
 use Rattle.term.specs.Nodes.{name_of}
-use Rattle.term.specs.NodeSets.{names_in, set_of}
+use Rattle.term.specs.NodeSets.{set_of}
 use Rattle.term.specs.declared.lock_id.LockId.{LockId}
 use Rattle.command_lines.specs.declared.Call.{Call}
 use Rattle.command_lines.specs.declared.Call.TheVariants.{SetLock, DelLock}

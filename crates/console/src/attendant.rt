@@ -1,5 +1,5 @@
 //! Who answers what lines ask.
-ghost use Rattle.std.specs.Prelude.{◌≡◌, Bool, Result};
+ghost use Rattle.std.specs.Prelude.{Bool, Result};
 ghost use Rattle.command_lines.specs.declared.Reply.{Reply as AnyReply};
 ghost use Rattle.node_seats.specs.declared.fault.SeatFault.{SeatFault as AnyFault};
 ghost use Rattle.console.specs.declared.orders.Order.{Order as AnyOrder};

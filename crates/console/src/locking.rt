@@ -1,5 +1,5 @@
 //! What the lock calls of a console ask for, and which of them wait in a line.
-ghost use Rattle.std.specs.Prelude.{◌≡◌, ℕ, MatchOption, None};
+ghost use Rattle.std.specs.Prelude.{◌≡◌, ℕ, None};
 ghost use Rattle.term.specs.NodeSets.{set_of};
 ghost use Rattle.console.specs.Locking.{are_members as all_members, asks, is_granted as any_granted, IsRequestOf, sets_lock as any_sets_lock, waits_in_line as any_waits};
 

@@ -1,5 +1,5 @@
 //! Consoles at seats.
-ghost use Rattle.std.specs.Prelude.{◌≡◌, false, MatchResult};
+ghost use Rattle.std.specs.Prelude.{false, MatchResult};
 ghost use Rattle.std.specs.Io.Buffered.{reader_remaining};
 ghost use Rattle.text_lines.specs.Lines.{most_lines};
 ghost use Rattle.console.specs.Consoles.{Serves, Stops};

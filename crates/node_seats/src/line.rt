@@ -1,5 +1,5 @@
 //! Ways into the inbox of a node.
-ghost use Rattle.std.specs.Prelude.{◌≡◌, [], ◌∷◌, ◌++◌, OnOk, OnErr, IfErr};
+ghost use Rattle.std.specs.Prelude.{◌≡◌, OnOk, OnErr, IfErr};
 ghost use Rattle.link.specs.declared.faults.LinkFault.TheVariants.{Full};
 ghost use Rattle.link.specs.Mailboxes.{put, number_of, port_room};
 ghost use Rattle.node_seats.specs.Lines.{with_parcel};

@@ -1,5 +1,5 @@
 //! Nodes that were opened: what their seats and their threads are made from.
-ghost use Rattle.std.specs.Prelude.{◌≡◌, ◌<◌, ◌+◌, [], IfOk};
+ghost use Rattle.std.specs.Prelude.{◌≡◌, ◌<◌, [], IfOk};
 ghost use Rattle.link.specs.Mailboxes.{taken, mailbox_room};
 ghost use Rattle.node_seats.specs.Addresses.{inbox_at};
 ghost use Rattle.node_seats.specs.Callers.{name_of, inbox_of, place_of, own_place, nodes_of, nodes_at, asked_by};

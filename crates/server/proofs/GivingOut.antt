@@ -1,5 +1,5 @@
 -- Seats that are given out by a cluster, until it is ended.
-use Rattle.std.proofs.Common.{ℕ, zero, suc, Bool, ◌≡◌, ◌≤◌, ◌+◌, List, ◌++◌, length, length-append, Option, Some, None, Result, Ok, Err, refl, sym, ap, subst, inl, inr, ◌∙◌, arith}
+use Rattle.std.proofs.Common.{ℕ, zero, suc, Bool, ◌≡◌, ◌≤◌, ◌+◌, List, ◌++◌, length, length-append, Option, None, Result, Ok, Err, refl, sym, ap, subst, inl, inr, ◌∙◌, arith}
 use Rattle.std.specs.Prelude.{◌||◌, OnOk, OnErr}
 use Rattle.std.specs.Io.KnownBytes.{Appends}
 use Rattle.std.proofs.KnownBytes.{Appends-kept, Appends-trans}

@@ -7,7 +7,7 @@ use Rattle.text_lines.specs.declared.faults.StreamFault.TheVariants.{Write}
 use Rattle.console.specs.declared.faults.GreetFault.{GreetFault}
 use Rattle.console.specs.declared.faults.GreetFault.TheVariants.{TooManyConsoles}
 use Rattle.console.specs.Greetings.{Greets, LineAttaches, ReadsFirst, ShowsFirst, greeting_text}
-use Rattle.server.specs.Visits.{IsHeard, IsLetIn, IsPlaced, IsSentAway, IsTurnedAway, IsUnheard, IsWelcomed}
+use Rattle.server.specs.Visits.{IsHeard, IsLetIn, IsSentAway, IsTurnedAway, IsUnheard, IsWelcomed}
 
 -- bytes that stay, and then grow
 grown : (a b c : Option (List ℕ)) (text : List ℕ) → Keeps a b → Appends b c text → Appends a c text

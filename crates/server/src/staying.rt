@@ -1,5 +1,5 @@
 //! Serving a cluster until a console asks for its end.
-ghost use Rattle.std.specs.Prelude.{◌≡◌, None, IfOk, string_bytes};
+ghost use Rattle.std.specs.Prelude.{◌≡◌, None, IfOk};
 ghost use Rattle.node_threads.specs.Openings.{start_refused};
 ghost use Rattle.server.specs.Staying.{AreAll, GivesOut, Serve, StaysCluster, StaysRunning, TellsEnd};
 

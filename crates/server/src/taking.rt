@@ -1,5 +1,5 @@
 //! Taking consoles from a listener, each into a thread of its own.
-ghost use denote.Param.Send.{IsSend, IsSync};
+ghost use denote.Param.Send.{IsSend};
 ghost use Rattle.std.specs.Prelude.{◌≡◌, IfOk, OnOk};
 ghost use Rattle.server.specs.Attending.{Reaches};
 ghost use Rattle.server.specs.Served.{LeavesBehind, AllLeave, IsServed};

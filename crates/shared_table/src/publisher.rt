@@ -1,5 +1,5 @@
 //! Who publishes a node's table.
-ghost use Rattle.std.specs.Prelude.{◌≡◌, ◌<◌, ◌≤◌, ◌^◌, ◌↔◌, [], ◌∷◌, ◌++◌, length as list_length, drop, IsTrue, IfOk, OnOk, MatchResult};
+ghost use Rattle.std.specs.Prelude.{◌≡◌, ◌<◌, ◌^◌, ◌↔◌, [], ◌∷◌, ◌++◌, length as list_length, drop, IsTrue, IfOk, OnOk, MatchResult};
 ghost use Rattle.node_loop.specs.Owing.{shown_by, Owes};
 ghost use Rattle.node_loop.specs.Coming.{HandsOver};
 ghost use Rattle.shared_table.specs.Editions.{IsShown};

@@ -1,5 +1,5 @@
 //! The threads of a server that stays.
-ghost use denote.Param.Send.{IsSend, IsSync};
+ghost use denote.Param.Send.{IsSend};
 ghost use Rattle.std.specs.Prelude.{◌≡◌, ◌+◌, ℕ, List, length, IfOk, OnOk};
 ghost use Rattle.server.specs.Staying.{Serve, Starts, workers_for};
 
