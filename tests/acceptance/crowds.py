@@ -1,7 +1,7 @@
 """Tests of crowds: more consoles at a server that stays than its cluster has seats.
 
 A console has a seat only while a line of it is carried out at its node, so however many are silent, or wait for their turn, a lock or a name,
-all others are served.
+all others are served. Each test runs alone: a crowd would hold others up, and they the crowd.
 """
 
 import re
@@ -196,6 +196,6 @@ def few_descriptors_for_a_crowd(program):
 def tests(program, root):
     for name, nodes in [("of_one_node", "a"), ("of_three_nodes", "a,b,c")]:
         for test in [silent_consoles_hold_nobody_up, each_finds_what_it_was_told, one_lock_goes_through_a_crowd, shutdown_ends_a_crowd]:
-            yield Test(f"crowds/{test.__name__}_{name}", partial(test, program, nodes))
+            yield Test(f"crowds/{test.__name__}_{name}", partial(test, program, nodes), alone=True)
     for test in [waiters_of_many_locks_hold_nobody_up, all_places_are_taken, few_descriptors_for_a_crowd]:
-        yield Test(f"crowds/{test.__name__}", partial(test, program))
+        yield Test(f"crowds/{test.__name__}", partial(test, program), alone=True)

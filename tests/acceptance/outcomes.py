@@ -14,10 +14,12 @@ class Failure(Exception):
 
 @dataclass(frozen=True)
 class Test:
-    """A test with its name, and what it runs: that raises a Failure where the test fails."""
+    """A test with its name, and what it runs: that raises a Failure where the test fails. One that runs alone has the machine for itself, so
+    that it holds no other up that waits for something."""
 
     name: str
     run: Callable[[], None]
+    alone: bool = False
 
 
 def lines_of(text):
