@@ -17,11 +17,12 @@ from .served import Console, Served, listen_to, wait_for, write_private
 ABOUT = b"A verified global name server\n.."
 ABOUT_SERVE = b"Runs nodes and serves consoles over the network\n.."
 ABOUT_SCRIPT = b"Plays a script from standard input and prints its answers\n.."
+ABOUT_NODE = b"Runs one node by the lines of standard input, and prints what it sends and answers\n.."
 VERSION = b"cluster_main 0.1.0\n"
 ERROR = b"error: .."
 COOKIE = b"0123456789abcdef"
 
-# What is read only where a script is played.
+# What is read only where a script is played, or a node is run.
 INPUT = b"cluster a\nspawn a\n"
 
 
@@ -53,6 +54,10 @@ def refuses_lists(name, word, *lists):
     return Call(name, words, 2, errors=b"error %s\n" % word.encode())
 
 
+def refuses_node(name, word, node, nodes):
+    return Call(name, ["node", node, nodes], 2, errors=b"error %s\n" % word.encode())
+
+
 def refuses_staying(name, line, options):
     return Call(name, ["serve", "--nodes", "a", *options.split()], 2, errors=f"error: {line}\n".encode())
 
@@ -70,14 +75,23 @@ CALLS = [
     shows("short_help_of_serve", "serve -h", ABOUT_SERVE),
     shows("help_of_serve_as_a_word", "help serve", ABOUT_SERVE),
     shows("help_of_script", "script --help", ABOUT_SCRIPT),
+    shows("help_of_node", "node --help", ABOUT_NODE),
+    shows("short_help_of_node", "node -h", ABOUT_NODE),
+    shows("help_of_node_as_a_word", "help node", ABOUT_NODE),
     shows("version", "--version", VERSION),
     shows("short_version", "-V", VERSION),
     Call("script", ["script"], 0, b"a.1\n"),
+    Call("node", ["node", "a", "b,a"], 0, b"error bad_line\nerror bad_line\n"),
     refuses("no_arguments"),
     refuses("empty_argument", ""),
     refuses("unknown_word", "nonsense"),
     refuses("unknown_option", "--bogus"),
     refuses("word_behind_script", "script", "more"),
+    refuses("node_without_arguments", "node"),
+    refuses("node_without_a_list", "node", "a"),
+    refuses("word_behind_a_node", "node", "a", "a,b", "c"),
+    refuses("option_of_a_node", "node", "a", "a,b", "--stay"),
+    refuses("node_that_is_no_text", "node", b"\xff", "a"),
     refuses("argument_that_is_no_text", b"\xff"),
     refuses("argument_that_is_no_text_behind_script", "script", b"\xc3\x28"),
     refuses("argument_of_5000_bytes", "script", "x" * 5000),
@@ -127,13 +141,25 @@ CALLS = [
     refuses_lists("nine_nodes_in_both_lists", "too_many_nodes", "--nodes", "a,b,c,d,e", "--lone", "f,g,h,i"),
     refuses_lists("node_in_both_lists", "same_node", "--nodes", "a,b", "--lone", "b"),
     refuses_lists("same_node_before_too_many", "same_node", "--nodes", "a,b,c,d,e,f,g,h", "--lone", "h,i"),
+    refuses_node("node_that_is_not_of_its_list", "no_such_node", "c", "a,b"),
+    refuses_node("node_whose_name_begins_one_of_its_list", "no_such_node", "a", "ab,b"),
+    refuses_node("node_with_an_empty_name", "empty", "", "a,b"),
+    refuses_node("node_with_a_long_name", "too_long", "n" * 65, "a,b"),
+    refuses_node("node_with_a_bad_byte", "bad_byte", "a!", "a,b"),
+    refuses_node("node_with_a_creation", "bad_byte", "a/2", "a,b"),
+    refuses_node("empty_list_of_a_node", "empty", "a", ""),
+    refuses_node("list_of_a_node_with_an_empty_name", "empty", "a", "a,,b"),
+    refuses_node("list_of_a_node_with_a_bad_byte", "bad_byte", "a", "a,b!"),
+    refuses_node("nine_nodes_of_a_node", "too_many_nodes", "a", "a,b,c,d,e,f,g,h,i"),
+    refuses_node("node_counts_before_its_list", "bad_byte", "a!", "a,,b"),
+    refuses_node("list_counts_before_what_it_has", "too_many_nodes", "z", "a,b,c,d,e,f,g,h,i"),
     cannot_listen("address_without_a_port", "127.0.0.1"),
     cannot_listen("address_that_is_none", "nowhere"),
 ]
 
 
 def check(program, call):
-    """Makes a call. Only a script reads its input."""
+    """Makes a call. Only a script and a node read their input, where they are run."""
     with tempfile.TemporaryFile(buffering=0) as given:
         given.write(INPUT)
         given.seek(0)
@@ -142,32 +168,37 @@ def check(program, call):
     expect_text("standard output", call.output, ran.stdout)
     expect_text("standard error", call.errors, ran.stderr)
     expect_status(call.status, ran.returncode)
-    if is_read and call.words != ["script"]:
+    if is_read and call.name not in ["script", "node"]:
         raise Failure("it read its input")
 
 
 # Words that are refused, and a part of what is told of them.
 REFUSED = [
-    ("", "--listen <ADDR>"),
-    ("--listen x", "--nodes <LIST>"),
-    ("--listen x --nodes a --consoles 1025", "1..=1024"),
-    ("--listen x --nodes a --consoles 0", "1..=1024"),
-    ("--listen unix:x --nodes a --stay --idle 0", "1..=31536000"),
-    ("--listen unix:x --nodes a --stay --idle 31536001", "1..=31536000"),
+    ("serve", "--listen <ADDR>"),
+    ("serve --listen x", "--nodes <LIST>"),
+    ("serve --listen x --nodes a --consoles 1025", "1..=1024"),
+    ("serve --listen x --nodes a --consoles 0", "1..=1024"),
+    ("serve --listen unix:x --nodes a --stay --idle 0", "1..=31536000"),
+    ("serve --listen unix:x --nodes a --stay --idle 31536001", "1..=31536000"),
+    ("node", "<NODE>"),
+    ("node", "<LIST>"),
+    ("node a", "<LIST>"),
 ]
 
 
 def what_is_wanted_is_told(program):
     for words, part in REFUSED:
-        told = program.run(["serve", *words.split()]).stderr
+        told = program.run(words.split()).stderr
         if part.encode() not in told:
-            raise Failure(f"`serve {words}`: {part} isn't told of: {shown(told)}")
+            raise Failure(f"`{words}`: {part} isn't told of: {shown(told)}")
 
 
 def help_tells_of_each_option(program):
     told = program.run(["--help"]).stdout
     if b"Runs nodes and serves consoles over the network" not in told:
         raise Failure("serve isn't told of")
+    if b"Runs one node by the lines of standard input" not in told:
+        raise Failure("node isn't told of")
     told = program.run(["serve", "--help"]).stdout
     for address in [b"127.0.0.1:4370", b"unix:/run/yaltzumin/socket"]:
         if address not in told:
@@ -176,6 +207,10 @@ def help_tells_of_each_option(program):
     for option in [*options, b"--stay", b"--cookie-file <FILE>", b"--idle <SECONDS>"]:
         if option not in told:
             raise Failure(f"{option.decode()} isn't told of")
+    told = program.run(["node", "--help"]).stdout
+    for argument in [b"<NODE>", b"<LIST>"]:
+        if argument not in told:
+            raise Failure(f"{argument.decode()} isn't told of")
 
 
 def address_in_use(program):
@@ -328,7 +363,8 @@ def fails_silently(program, words, **how):
 def input_that_cannot_be_read(program):
     folder = os.open("/", os.O_RDONLY)
     try:
-        fails_silently(program, ["script"], stdin=folder)
+        for words in [["script"], ["node", "a", "a"]]:
+            fails_silently(program, words, stdin=folder)
     finally:
         os.close(folder)
 
@@ -358,7 +394,8 @@ def output_that_nobody_reads(program):
     reader, writer = os.pipe()
     os.close(reader)
     try:
-        fails_silently(program, ["script"], input=INPUT, stdout=writer)
+        for words in [["script"], ["node", "a", "a"]]:
+            fails_silently(program, words, input=INPUT, stdout=writer)
     finally:
         os.close(writer)
 
@@ -402,8 +439,8 @@ def tests(program, root):
     ]:
         yield Test(f"arguments/{it.__name__}", partial(it, program))
     serve = ["serve", "--listen", "127.0.0.1:0", "--nodes", "a"]
-    for name, words in [("script", ["script"]), ("help", ["--help"]), ("serve", serve)]:
+    for name, words in [("script", ["script"]), ("node", ["node", "a", "a"]), ("help", ["--help"]), ("serve", serve)]:
         yield Test(f"arguments/output_that_is_full_of_{name}", partial(output_that_is_full, program, words))
     wrong_words = [("an_unknown_word", ["nonsense"]), ("no_text", [b"\xff"]), ("a_bad_list", [*serve[:-1], "a,,b"])]
-    for name, words in wrong_words:
+    for name, words in [*wrong_words, ("a_stranger", ["node", "c", "a,b"])]:
         yield Test(f"arguments/errors_that_are_full_of_{name}", partial(errors_that_are_full, program, words))

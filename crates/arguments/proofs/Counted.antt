@@ -1,14 +1,13 @@
--- What is read of the options of `serve`.
+-- What is read of the options of `serve`, and faults that are handed on.
 use Rattle.std.proofs.Common.{◌≡◌, ◌∙◌, ◌==◌, ◌<◌, ◌^◌, ℕ, Bool, cond, true, false, refl, sym, ap, subst, List, [], ◌∷◌, drop, Option, Some, None, Result, Ok, Err, IsErrAnd, IfSome, MatchResult, codes, option_map, pos, unwrap_or, inl, inr, arith}
 use Rattle.std.specs.Str.Parse.{ParsesUnsigned, digits_value, starts_with_minus, without_leading_plus}
 use Rattle.std.proofs.lemmas.Int.{ints}
 use Rattle.clap.specs.Words.{IsSignedIn, ReadsOne, without_minus}
 use Rattle.clap.proofs.CallerReads.{signed_reads}
 use Rattle.arguments.specs.Nodes.{RefusesPlacing}
-use Rattle.arguments.specs.Reading.{Counts, CountsConsoles, CountsSeconds, IsFlagText, RefusesTold, Tells, Values, is_set}
+use Rattle.arguments.specs.Reading.{Counts, CountsConsoles, CountsSeconds, IsFlagText, RefusesTold, Values, is_set}
 use Rattle.arguments.specs.declared.faults.ArgFault.{ArgFault}
 use Rattle.arguments.specs.declared.faults.ArgFault.TheVariants as fault
-use Rattle.arguments.specs.declared.task.ServeOptions.{ServeOptions}
 
 without_minus-cond : (t : List ℕ) → without_minus t ≡ cond (starts_with_minus t) (drop 1 t) t
 without_minus-cond [] = refl
@@ -80,8 +79,10 @@ lists_refused v list second fault.SameNode nodes same h =
     record { list = list; nodes = nodes; refused = subst (λ o. RefusesPlacing list o fault.SameNode) same h }
 lists_refused v list second fault.TooManyNodes nodes same h =
     record { list = list; nodes = nodes; refused = subst (λ o. RefusesPlacing list o fault.TooManyNodes) same h }
+lists_refused v list second fault.NoSuchNode nodes same h = absurd h
 
-pub fails_so : (v : Values) (r : Result ServeOptions ArgFault) (f : ArgFault) → IsErrAnd r (λ y. y ≡ f) → RefusesTold v f
-    → MatchResult r (Tells v) (RefusesTold v)
-fails_so v (Ok o) f is h = absurd is
-fails_so v (Err y) f is h = subst (RefusesTold v) (sym is) h
+-- what is true of a fault is true where it is handed on
+pub handed_on : {T : Type 0} (P : T → Type 0) (Q : ArgFault → Type 0) (r : Result T ArgFault) (f : ArgFault) → IsErrAnd r (λ y. y ≡ f) → Q f
+    → MatchResult r P Q
+handed_on P Q (Ok t) f is h = absurd is
+handed_on P Q (Err y) f is h = subst Q (sym is) h

@@ -1,14 +1,14 @@
--- What the walk over words has found where none of its steps fails, for a command whose options take one value each, or are flags.
+-- What the walk over words has found where none of its steps fails, for a command whose arguments take one value each, or are flags.
 use Rattle.std.proofs.Common.{◌≡◌, ◌∙◌, ◌&&◌, ◌||◌, ◌⊎◌, ℕ, Bool, cond, codes, true, false, not, zero, suc, refl, sym, ap, subst, arith, List, [], ◌∷◌, ◌++◌, length, drop, Option, Some, None, inl, inr, is_some, find, fold, bytes_eq, chars, if◌then◌else◌, ne_eqb, append-nil}
 use Rattle.std.specs.Prelude.{⊤, encode_utf8, slice_get, unwrap_or, ◌==◌}
 use Rattle.std.specs.Option.{option_map_or}
 use Rattle.clap.specs.Values.{is_request}
 use Rattle.clap.specs.Facts.{unwrap_or_range}
 use Rattle.clap.specs.Lexer.{long_of, short_of}
-use Rattle.clap.specs.Walk.{Held, Names, Outcome, Row, Rule, Step, Text, Waiting, Walk, action_of, after_flag, after_step, arg_by_id, arg_by_index, arg_by_long, arg_by_short, at_row, attached_value, bundle, bundle_met, bundle_step, default_rows, done, flag_met, has_row, idle, long_met, long_or_other, more_values, most_values, next, nothing_held, option, option_met, option_word, plain, plain_word, positional, reacted, reading_by, refused, rows_after, settled, settled_rows, short_met, short_or_plain, subcommand, subcommand_met, subcommand_or_other, takes_values, to_positional, trailing, used, used_as, used_by_id, value, values_or_missing, waits, walk, walk_from, walked, walked_from, with_default, with_values, without, word_met}
+use Rattle.clap.specs.Walk.{Held, Names, Outcome, Row, Rule, Step, Text, Waiting, Walk, action_of, after_flag, after_step, arg_by_id, arg_by_index, arg_by_long, arg_by_short, at_row, attached_value, bundle, bundle_met, bundle_step, default_rows, done, flag_met, has_row, idle, is_pending, long_met, long_or_other, more_values, most_values, next, nothing_held, option, option_met, option_word, plain, plain_word, positional, pushed, reacted, reading_by, refused, rows_after, settled, settled_rows, short_met, short_or_plain, subcommand, subcommand_met, subcommand_or_other, takes_several, takes_values, to_positional, trailing, used, used_as, used_by_id, value, values_or_missing, waits, walk, walk_from, walked, walked_from, with_default, with_values, without, word_met}
 use Rattle.clap.specs.Simple.{Shape}
 use Rattle.clap.specs.Kinds.{Kinds, or_else, range_kinds}
-use Rattle.clap.specs.Faults.{action_fault, bundle_fault, bundle_step_fault, check_fault, defaults_fault, flag_word_fault, flags_fault, level_fault, long_fault, option_fault, other_fault, react_fault, repeat_fault, set_fault, settle_fault, short_fault, step_fault, turn_fault, use_fault, values_fault, walk_fault, word_fault}
+use Rattle.clap.specs.Faults.{action_fault, bundle_fault, bundle_step_fault, check_fault, defaults_fault, flag_word_fault, flags_fault, level_fault, long_fault, option_fault, other_fault, positional_fault, react_fault, repeat_fault, set_fault, settle_fault, short_fault, step_fault, stray_fault, turn_fault, use_fault, values_fault, walk_fault, word_fault}
 use Rattle.clap.specs.declared.builder.action.ArgAction.{ArgAction}
 use Rattle.clap.specs.declared.builder.action.ArgAction.TheVariants as action
 use Rattle.clap.specs.declared.builder.range.ValueRange.{ValueRange}
@@ -32,7 +32,7 @@ row_with a v = record { id = a.id; values = v ∷ []; count = None; source = Som
 abbrev pub one_value : ValueRange
 one_value = record { start_inclusive = 1; end_inclusive = 1 }
 
--- an option with one value: where that passes, its row has the property
+-- an argument with one value: where that passes, its row has the property
 pub record TakesOne (P : Row → Type 0) (a : Rule) : Type 0 where
   pub set : action_of a ≡ action.Set
   pub range : unwrap_or_range a.range ≡ one_value
@@ -49,7 +49,7 @@ pub record IsFlag (P : Row → Type 0) (a : Rule) : Type 0 where
   pub stands : a.missing ≡ text ∷ []
   pub fits : P (row_with a text)
 
--- such an option or flag, or one that asks for help or the version
+-- such an argument or flag, or one that asks for help or the version
 abbrev pub IsFine : (Row → Type 0) → Rule → Type 0
 IsFine P a = (is_request (action_of a) ≡ true) ⊎ (TakesOne P a ⊎ IsFlag P a)
 
@@ -61,12 +61,11 @@ default_row a v = record { id = a.id; values = v ∷ []; count = None; source = 
 abbrev pub HasFineDefault : (Row → Type 0) → Rule → Type 0
 HasFineDefault P a = (a.defaults ≡ []) ⊎ ((v : Text) × (a.defaults ≡ v ∷ []) × P (default_row a v))
 
--- a command has options and flags only, each of which may be used once
+-- a command has such arguments and flags only, each of which may be used once
 pub record HasFineRules (P : Row → Type 0) (again : Bool) (c : List Rule) : Type 0 where
   pub once : again ≡ false
   pub fine : AllRules (IsFine P) c
   pub defaults : AllRules (HasFineDefault P) c
-  pub no_positional : (i : ℕ) → arg_by_index c i ≡ None
 
 rows_more : (P : Row → Type 0) (xs ys : List Row) → AllRows P xs → AllRows P ys → AllRows P (xs ++ ys)
 rows_more P [] ys a b = b
@@ -309,13 +308,22 @@ word_rows P s f names false waiting position word h none all =
 
 -- ---- the walk
 
-step_rows : (P : Row → Type 0) (c : List Rule) → ((i : ℕ) → arg_by_index c i ≡ None) → (word : Text) (w : Walk) (h : Held) (step : Step)
-    → AllRows P h.rows → AllRows P (after_step c word w h step).held.rows
-step_rows P c never word w h (next waiting) all = all
-step_rows P c never word w h (trailing position) all = all
-step_rows P c never word w h (subcommand name) all = all
-step_rows P c never word w h value all =
-    subst (λ (o : Option Rule). AllRows P (to_positional c o word w h).held.rows) (sym (never w.position)) all
+step_rows : (P : Row → Type 0) (s : Shape) → HasFineRules P s.args_override_self s.rules → (word : Text) (w : Walk) (h : Held) (step : Step)
+    → step_fault s w.position h step ≡ [] → AllRows P h.rows → AllRows P (after_step s.rules word w h step).held.rows
+step_rows P s f word w h (next waiting) none all = all
+step_rows P s f word w h (trailing position) none all = all
+step_rows P s f word w h (subcommand name) none all = all
+step_rows P s f word w h value none all = go (arg_by_index s.rules w.position) none
+  where
+    push : (a : Rule) (more : Bool) → (if more then [] else settle_fault s.rules s.args_override_self h) ≡ []
+        → AllRows P (pushed a.id word (if more then h else settled s.rules h)).rows
+    push a true n = all
+    push a false n = settle_rows P s.args_override_self s.rules f h n all
+
+    go : (o : Option Rule) → option_map_or (λ a. positional_fault s.rules s.args_override_self a h) o (stray_fault s) ≡ []
+        → AllRows P (to_positional s.rules o word w h).held.rows
+    go None n = all
+    go (Some a) n = push a (is_pending a h.pending && takes_several a) n
 
 turn_rows : (P : Row → Type 0) (s : Shape) → HasFineRules P s.args_override_self s.rules → (names : Names) (w : Walk) (word : Text)
     → turn_fault s names w word ≡ [] → AllRows P w.held.rows → AllRows P (walked_from s.rules names w.stopped w word).held.rows
@@ -331,7 +339,7 @@ turn_rows P s f names w word none all = go w.stopped none
     go (Some p) n = all
     go None n =
         let parts = nil_both (word_fault s names w.is_trailing w.waiting word w.held) _ n in
-        step_rows P s.rules f.no_positional word w _ _
+        step_rows P s f word w _ _ parts.1
         (word_rows P s f names w.is_trailing w.waiting w.position word w.held parts.0 all)
 
 pub walk_rows : (P : Row → Type 0) (s : Shape) → HasFineRules P s.args_override_self s.rules → (names : Names) (w : Walk) (words : List Text)

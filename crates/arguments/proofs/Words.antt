@@ -3,7 +3,7 @@ use Rattle.std.proofs.Common.{[], ◌∷◌, ◌≡◌, refl, true, codes, Some,
 use Rattle.clap.specs.Words.{Text, is_simple, is_simple_and_free, subcommand_of}
 use Rattle.clap.proofs.OnLiterals.{clap_on_literals}
 use Rattle.clap.specs.declared.error.kind.ErrorKind.TheVariants as kind
-use Rattle.arguments.specs.CommandLine.{KnownWords, program, refusals, serving, value_in}
+use Rattle.arguments.specs.CommandLine.{KnownWords, program, refusals, running, serving, value_in}
 
 -- no argument has a rule on another
 pub is_free : is_simple_and_free program ≡ true
@@ -134,6 +134,38 @@ ends : (name : Text) → value_in (subcommand_of program (serving name [])) (cod
 unfolding clap_on_literals
 ends name = refl
 
+node_help : (name : Text) → refusals (name ∷ codes "node" ∷ codes "--help" ∷ []) ≡ kind.DisplayHelp ∷ []
+unfolding clap_on_literals
+node_help name = refl
+
+node_alone : (name : Text) → refusals (name ∷ codes "node" ∷ []) ≡ kind.MissingRequiredArgument ∷ []
+unfolding clap_on_literals
+node_alone name = refl
+
+node_without_list : (name : Text) → refusals (name ∷ codes "node" ∷ codes "a" ∷ []) ≡ kind.MissingRequiredArgument ∷ []
+unfolding clap_on_literals
+node_without_list name = refl
+
+node_of_a_list : (name : Text) → refusals (running name []) ≡ []
+unfolding clap_on_literals
+node_of_a_list name = refl
+
+node_with_more : (name : Text) → refusals (running name (codes "c" ∷ [])) ≡ kind.UnknownArgument ∷ []
+unfolding clap_on_literals
+node_with_more name = refl
+
+node_with_an_option : (name : Text) → refusals (running name (codes "--stay" ∷ [])) ≡ kind.UnknownArgument ∷ []
+unfolding clap_on_literals
+node_with_an_option name = refl
+
+own_node : (name : Text) → value_in (subcommand_of program (running name [])) (codes "node") ≡ Some (codes "a")
+unfolding clap_on_literals
+own_node name = refl
+
+all_nodes : (name : Text) → value_in (subcommand_of program (running name [])) (codes "nodes") ≡ Some (codes "a,b")
+unfolding clap_on_literals
+all_nodes name = refl
+
 pub known_words : KnownWords
 known_words = record {
   script = script;
@@ -166,4 +198,12 @@ known_words = record {
   cookie_file = cookie_file;
   idle = idle;
   ends = ends;
+  node_help = node_help;
+  node_alone = node_alone;
+  node_without_list = node_without_list;
+  node_of_a_list = node_of_a_list;
+  node_with_more = node_with_more;
+  node_with_an_option = node_with_an_option;
+  own_node = own_node;
+  all_nodes = all_nodes;
 }

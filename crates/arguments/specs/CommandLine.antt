@@ -1,5 +1,5 @@
 -- The command line of the program, and what its words ask for.
-use Rattle.std.specs.Prelude.{◌≡◌, true, codes, List, [], ◌∷◌, ◌++◌, Option, Some, None, pos, option_map, option_and_then}
+use Rattle.std.specs.Prelude.{◌≡◌, ℕ, true, codes, List, [], ◌∷◌, ◌++◌, Option, Some, None, pos, option_map, option_and_then}
 use Rattle.clap.specs.Words.{App, Kinds, Row, Rule, Shape, Text, fault_of, first_of, new_app, new_rule, subcommand_of, with_subcommand}
 use Rattle.clap.specs.Simple.{new_shape}
 use Rattle.clap.specs.declared.builder.action.ArgAction.TheVariants.{Set, SetTrue}
@@ -42,11 +42,23 @@ staying_rules = stay_rule ∷ one_valued (codes "cookie-file") ∷ idle_rule ∷
 abbrev pub serve_shape : Shape
 serve_shape = record valued_serve_shape { rules = valued_rules ++ staying_rules }
 
--- a command with a version and two subcommands, `script`, which takes no arguments, and `serve`, of which one is wanted
-abbrev pub program : App
-program =
+-- an argument that stands at this place, and can't be left out
+abbrev pub placed : ℕ → Text → Rule
+placed place id = record (new_rule id) { index = Some place; action = Some Set; required = true; value_names = 1 }
+
+-- the subcommand `node` with its arguments
+abbrev pub node_shape : Shape
+node_shape = record (new_shape (codes "node")) { rules = placed 1 (codes "node") ∷ placed 2 (codes "nodes") ∷ [] }
+
+-- a command with a version and the subcommands of whole worlds, `script`, which takes no arguments, and `serve`: one is wanted
+abbrev pub worlds_program : App
+worlds_program =
     let app = with_subcommand (with_subcommand (new_app (codes "cluster_main")) (new_app (codes "script")).top) serve_shape in
     record app { top = record app.top { has_version = true; subcommand_required = true } }
+
+-- the same with the subcommand `node`
+abbrev pub program : App
+program = with_subcommand worlds_program node_shape
 
 -- the kinds of error that a parse of words, the program's name first, may give: none where they ask for something
 abbrev pub refusals : List Text → Kinds
@@ -68,6 +80,10 @@ value_in entered id = option_and_then (λ p. first_of id p.1) entered
 abbrev pub serving : Text → List Text → List Text
 serving name more =
     name ∷ codes "serve" ∷ codes "--listen" ∷ codes "x:1" ∷ codes "--nodes" ∷ codes "a,b" ∷ more
+
+-- a line that runs the node a of a and b, with more words behind
+abbrev pub running : Text → List Text → List Text
+running name more = name ∷ codes "node" ∷ codes "a" ∷ codes "a,b" ∷ more
 
 -- what some words ask for, behind any name of the program
 pub record KnownWords : Type 0 where
@@ -111,3 +127,11 @@ pub record KnownWords : Type 0 where
   pub idle : (name : Text) → value_in (subcommand_of program (serving name (codes "--idle=9" ∷ []))) (codes "idle")
       ≡ Some (codes "9")
   pub ends : (name : Text) → value_in (subcommand_of program (serving name [])) (codes "stay") ≡ Some (codes "false")
+  pub node_help : (name : Text) → refusals (name ∷ codes "node" ∷ codes "--help" ∷ []) ≡ kind.DisplayHelp ∷ []
+  pub node_alone : (name : Text) → refusals (name ∷ codes "node" ∷ []) ≡ kind.MissingRequiredArgument ∷ []
+  pub node_without_list : (name : Text) → refusals (name ∷ codes "node" ∷ codes "a" ∷ []) ≡ kind.MissingRequiredArgument ∷ []
+  pub node_of_a_list : (name : Text) → refusals (running name []) ≡ []
+  pub node_with_more : (name : Text) → refusals (running name (codes "c" ∷ [])) ≡ kind.UnknownArgument ∷ []
+  pub node_with_an_option : (name : Text) → refusals (running name (codes "--stay" ∷ [])) ≡ kind.UnknownArgument ∷ []
+  pub own_node : (name : Text) → value_in (subcommand_of program (running name [])) (codes "node") ≡ Some (codes "a")
+  pub all_nodes : (name : Text) → value_in (subcommand_of program (running name [])) (codes "nodes") ≡ Some (codes "a,b")

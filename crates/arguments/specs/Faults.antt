@@ -4,7 +4,7 @@ use Rattle.term.specs.declared.faults.TextFault.{TextFault}
 use Rattle.term.specs.declared.faults.TextFault.TheVariants.{Empty, TooLong, BadByte, BadCreation, BadSerial, BadRule}
 use Rattle.term.specs.declared.faults.TextFault.TheVariants as text
 use Rattle.arguments.specs.declared.faults.ArgFault.{ArgFault}
-use Rattle.arguments.specs.declared.faults.ArgFault.TheVariants.{Options, Words, Text, SameNode, TooManyNodes}
+use Rattle.arguments.specs.declared.faults.ArgFault.TheVariants.{Options, Words, Text, SameNode, TooManyNodes, NoSuchNode}
 use Rattle.arguments.specs.declared.faults.OptionFault.{OptionFault}
 use Rattle.arguments.specs.declared.faults.OptionFault.TheVariants.{CookieFile, Idle, Socket, Consoles, NoCookieFile}
 
@@ -33,3 +33,4 @@ word_of (Options f) = None
 word_of (Text f) = Some (text_word f)
 word_of SameNode = Some (codes "same_node")
 word_of TooManyNodes = Some (codes "too_many_nodes")
+word_of NoSuchNode = Some (codes "no_such_node")

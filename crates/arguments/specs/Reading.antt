@@ -5,14 +5,15 @@ use Rattle.clap.specs.Words.{HasKind, IsSignedIn, Row, first_of, one_of, subcomm
 use Rattle.clap.specs.Values.{kind_of}
 use Rattle.clap.specs.declared.error.kind.ErrorKind.TheVariants.{OutOfMemory}
 use Rattle.arguments.specs.CommandLine.{Entered, name_in, program, refusals, value_in}
-use Rattle.arguments.specs.Nodes.{PlacesNodes, RefusesPlacing}
+use Rattle.arguments.specs.Nodes.{PlacesNode, PlacesNodes, RefusesOwn, RefusesPlacing}
 use Rattle.arguments.specs.Together.{Clashes}
 use Rattle.arguments.specs.declared.faults.ArgFault.{ArgFault}
 use Rattle.arguments.specs.declared.faults.ArgFault.TheVariants.{Options, Words}
 use Rattle.arguments.specs.declared.faults.OptionFault.{OptionFault}
+use Rattle.arguments.specs.declared.task.NodeOptions.{NodeOptions}
 use Rattle.arguments.specs.declared.task.ServeOptions.{ServeOptions}
 use Rattle.arguments.specs.declared.task.Task.{Task}
-use Rattle.arguments.specs.declared.task.Task.TheVariants.{Script, Serve}
+use Rattle.arguments.specs.declared.task.Task.TheVariants.{Script, Serve, Node}
 
 -- the value of each option, by its name
 abbrev pub Values : Type 0
@@ -88,32 +89,55 @@ pub record HasOptions (rows : List Row) : Type 0 where
   pub flag : IfSome (first_of (codes "stay") rows) IsFlagText
   pub written : one_of (codes "stay") rows ≡ first_of (codes "stay") rows
 
--- what clap has seen to: a subcommand is named, which is `script`, or `serve` with its options
+-- these values tell `node` so
+pub record TellsNode (value : Values) (o : NodeOptions) : Type 0 where
+  pub text : Bytes
+  pub list : Bytes
+  pub node : value (codes "node") ≡ Some text
+  pub nodes : value (codes "nodes") ≡ Some list
+  pub placed : PlacesNode text list o.node o.world
+
+-- the node and the list that these values give are refused for the fault
+pub record RefusesNode (value : Values) (fault : ArgFault) : Type 0 where
+  pub text : Bytes
+  pub list : Bytes
+  pub node : value (codes "node") ≡ Some text
+  pub nodes : value (codes "nodes") ≡ Some list
+  pub refused : RefusesOwn text list fault
+
+-- what clap has seen to: the arguments of `node` are there
+pub record HasArguments (rows : List Row) : Type 0 where
+  pub node : is_some (first_of (codes "node") rows) ≡ true
+  pub nodes : is_some (first_of (codes "nodes") rows) ≡ true
+
+-- what clap has seen to: a subcommand is named, which is `script`, or `serve` with its options, or `node` with its arguments
 abbrev pub IsLooked : Entered → Type 0
 IsLooked entered = (name_in entered ≡ Some (codes "script"))
     ⊎ ((rows : List Row) × (entered ≡ Some (codes "serve", rows)) × HasOptions rows)
+    ⊎ ((rows : List Row) × (entered ≡ Some (codes "node", rows)) × HasArguments rows)
 
 -- the subcommand and its options ask for this
 abbrev pub AsksIn : Entered → Task → Type 0
 AsksIn entered Script = name_in entered ≡ Some (codes "script")
 AsksIn entered (Serve o) = (name_in entered ≡ Some (codes "serve")) × TellsFine (value_in entered) o
+AsksIn entered (Node o) = (name_in entered ≡ Some (codes "node")) × TellsNode (value_in entered) o
 
--- the options of `serve` are refused for the fault
+-- the options of `serve` are refused for the fault, or the arguments of `node`
 abbrev pub RefusesIn : Entered → ArgFault → Type 0
-RefusesIn entered fault = (name_in entered ≡ Some (codes "serve")) × RefusesValues (value_in entered) fault
+RefusesIn entered fault = ((name_in entered ≡ Some (codes "serve")) × RefusesValues (value_in entered) fault)
+    ⊎ ((name_in entered ≡ Some (codes "node")) × RefusesNode (value_in entered) fault)
 
 -- the words, the program's name first, ask for this
 pub record Asks (words : List Bytes) (task : Task) : Type 0 where
   pub taken : refusals words ≡ []
   pub asked : AsksIn (subcommand_of program words) task
 
--- the words are taken, and the options of `serve` are refused for the fault
+-- the words are taken, and what stands behind the subcommand is refused for the fault
 pub record RefusesOptionsOf (words : List Bytes) (fault : ArgFault) : Type 0 where
   pub taken : refusals words ≡ []
-  pub serves : name_in (subcommand_of program words) ≡ Some (codes "serve")
-  pub refused : RefusesValues (value_in (subcommand_of program words)) fault
+  pub refused : RefusesIn (subcommand_of program words) fault
 
--- why the words are not taken: clap refuses them or memory was refused, or else the options of `serve` are refused
+-- why the words are not taken: clap refuses them or memory was refused, or else what stands behind the subcommand is refused
 abbrev pub Refuses : List Bytes → ArgFault → Type 0
 Refuses words (Words e) = HasKind (refusals words) e
 Refuses words fault = RefusesOptionsOf words fault

@@ -2,7 +2,7 @@
 ghost use Rattle.std.specs.Prelude.{◌≡◌, false, None, IfOk, [], ◌∷◌};
 ghost use Rattle.clap.specs.Words.{app_of, rule_of};
 ghost use Rattle.clap.specs.declared.builder.command.Command.TheViews.{out-Command as fields_of};
-ghost use Rattle.arguments.specs.CommandLine.{program, consoles_rule, idle_rule, one_valued, serve_shape, stay_rule, valued_serve_shape, wanted};
+ghost use Rattle.arguments.specs.CommandLine.{program, consoles_rule, idle_rule, node_shape, one_valued, placed, serve_shape, stay_rule, valued_serve_shape, wanted, worlds_program};
 
 use clap::{Arg, ArgAction, Command};
 use std::alloc::{AllocError, Global};
@@ -111,9 +111,47 @@ fn serve_command<'a>(alloc: Global) -> Result<Command<'a>, AllocError>
         .arg(idle_option(alloc))
 }
 
-/// The command line of the program.
-pub(crate) fn command<'a>(alloc: Global) -> Result<Command<'a>, AllocError>
-    ensures { IfOk result (λ command. app_of command ≡ program) }
+/// An argument that stands at this place, counted from 1, which help calls by this name.
+fn argument<'a>(alloc: Global, place: usize, id: &'a str, value: &'a str, help: &'a str) -> Arg<'a>
+    ensures rule { rule_of result ≡ placed place id.entry.now }
+    ensures local { result.global ≡ false }
+{
+    Arg::new(alloc, id)
+        .index(place)
+        .action(ArgAction::Set)
+        .required(true)
+        .value_name(value)
+        .help(help)
+}
+
+/// The subcommand `node` with its arguments.
+fn node_command<'a>(alloc: Global) -> Result<Command<'a>, AllocError>
+    ensures shape { IfOk result (λ command. app_of command ≡ record { top = node_shape; subs = [] }) }
+    ensures local { IfOk result (λ command. (fields_of command).has_globals ≡ false) }
+{
+    let node = argument(
+        alloc,
+        1,
+        "node",
+        "NODE",
+        "The node, which is one of the list",
+    );
+    let nodes = argument(
+        alloc,
+        2,
+        "nodes",
+        "LIST",
+        "All nodes of its world, parted by commas, as a,b,c: the same at the program of each of them",
+    );
+    Command::new(alloc, "node")
+        .about("Runs one node by the lines of standard input, and prints what it sends and answers")
+        .arg(node)?
+        .arg(nodes)
+}
+
+/// The command line with the subcommands of whole worlds, `script` and `serve`.
+fn worlds_command<'a>(alloc: Global) -> Result<Command<'a>, AllocError>
+    ensures { IfOk result (λ command. app_of command ≡ worlds_program) }
 {
     let script = Command::new(alloc, "script").about(
         "Plays a script from standard input and prints its answers",
@@ -124,4 +162,11 @@ pub(crate) fn command<'a>(alloc: Global) -> Result<Command<'a>, AllocError>
         .subcommand_required(true)
         .subcommand(script)?
         .subcommand(serve_command(alloc)?)
+}
+
+/// The command line of the program.
+pub(crate) fn command<'a>(alloc: Global) -> Result<Command<'a>, AllocError>
+    ensures { IfOk result (λ command. app_of command ≡ program) }
+{
+    worlds_command(alloc)?.subcommand(node_command(alloc)?)
 }

@@ -27,6 +27,9 @@ pub enum ArgFault {
     /// The lists name more than eight nodes together, and share none.
     #[error("too_many_nodes")]
     TooManyNodes,
+    /// The node that is to run isn't one of the list.
+    #[error("no_such_node")]
+    NoSuchNode,
     /// The lists are fine, and an option doesn't go with the others.
     #[error("{0}")]
     Options(OptionFault),
@@ -109,6 +112,7 @@ impl ArgFault {
             ArgFault::Text(TextFault::TooManyNodes) => Some("too_many_nodes"),
             ArgFault::SameNode => Some("same_node"),
             ArgFault::TooManyNodes => Some("too_many_nodes"),
+            ArgFault::NoSuchNode => Some("no_such_node"),
         }
     }
 }

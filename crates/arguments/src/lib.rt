@@ -9,4 +9,4 @@ mod task;
 
 pub use faults::{ArgFault, OptionFault};
 pub use reading::read_args;
-pub use task::{ServeOptions, Task};
+pub use task::{NodeOptions, ServeOptions, Task};

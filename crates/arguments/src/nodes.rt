@@ -1,9 +1,9 @@
-//! The nodes of the two lists.
+//! The nodes of the two lists, and a node of one.
 ghost use Rattle.std.specs.Prelude.{◌≡◌, MatchResult, option_map};
-ghost use Rattle.arguments.specs.Nodes.{PlacesNodes, RefusesLone, RefusesPlacing, SpellsLone, shares};
+ghost use Rattle.arguments.specs.Nodes.{PlacesNode, PlacesNodes, RefusesLone, RefusesOwn, RefusesPlacing, SpellsLone, shares};
 
 use crate::faults::ArgFault;
-use term::{MOST_NODES, NodeNames, TextFault, parse_nodes};
+use term::{MOST_NODES, NodeName, NodeNames, TextFault, parse_node_name, parse_nodes};
 
 /// Whether some node is in both sets.
 fn share_a_node(cluster: &NodeNames, lone: &NodeNames) -> bool
@@ -41,4 +41,16 @@ pub(crate) fn read_nodes(
         return Err(ArgFault::TooManyNodes);
     }
     Ok((cluster, lone))
+}
+
+/// Reads the node that is to run, and the list of all nodes of its world, of which it is one. The node is looked at first.
+pub(crate) fn read_own(node: &str, nodes: &str) -> Result<(NodeName, NodeNames), ArgFault>
+    ensures { MatchResult result (λ own. PlacesNode node.now nodes.now own.0 own.1) (RefusesOwn node.now nodes.now) }
+{
+    let node = parse_node_name(node)?;
+    let world = parse_nodes(nodes)?;
+    if !world.contains(&node) {
+        return Err(ArgFault::NoSuchNode);
+    }
+    Ok((node, world))
 }

@@ -2,12 +2,12 @@
 ghost use Rattle.std.specs.Prelude.{◌≡◌, None, IfOk, MatchResult, codes, map, option_map, string_bytes};
 ghost use Rattle.clap.specs.Words.{first_of, found_of, rows_of, subcommand_rows_of};
 ghost use Rattle.arguments.specs.CommandLine.{KnownWords};
-ghost use Rattle.arguments.specs.Reading.{Asks, AsksIn, CountsConsoles, CountsSeconds, HasOptions, IsLooked, Refuses, RefusesIn, RefusesTold, RefusesValues, Tells, TellsFine};
+ghost use Rattle.arguments.specs.Reading.{Asks, AsksIn, CountsConsoles, CountsSeconds, HasArguments, HasOptions, IsLooked, Refuses, RefusesIn, RefusesNode, RefusesTold, RefusesValues, Tells, TellsFine, TellsNode};
 
 use crate::command_line::command;
 use crate::faults::ArgFault;
-use crate::nodes::read_nodes;
-use crate::task::{ServeOptions, Task};
+use crate::nodes::{read_nodes, read_own};
+use crate::task::{NodeOptions, ServeOptions, Task};
 use clap::ArgMatches;
 use std::alloc::{AllocError, Global};
 
@@ -90,6 +90,18 @@ fn read_options(alloc: Global, matches: &ArgMatches<'_>) -> Result<ServeOptions,
     }
 }
 
+/// Reads the arguments of `node`, which clap has looked at before.
+fn read_node(matches: &ArgMatches<'_>) -> Result<NodeOptions, ArgFault>
+    requires { HasArguments (rows_of (found_of matches.now)) }
+    ensures { MatchResult result (TellsNode (λ id. first_of id (rows_of (found_of matches.now))))
+        (RefusesNode (λ id. first_of id (rows_of (found_of matches.now)))) }
+{
+    let node = matches.get_str("node").unwrap();
+    let nodes = matches.get_str("nodes").unwrap();
+    let (node, world) = read_own(node, nodes)?;
+    Ok(NodeOptions { node, world })
+}
+
 /// Reads what clap found, which has looked at it before.
 fn read_matches(alloc: Global, matches: &ArgMatches<'_>) -> Result<Task, ArgFault>
     requires { IsLooked (subcommand_rows_of matches.now) }
@@ -97,6 +109,7 @@ fn read_matches(alloc: Global, matches: &ArgMatches<'_>) -> Result<Task, ArgFaul
 {
     match matches.subcommand() {
         Some(("serve", options)) => Ok(Task::Serve(read_options(alloc, options)?)),
+        Some(("node", arguments)) => Ok(Task::Node(read_node(arguments)?)),
         _ => Ok(Task::Script),
     }
 }

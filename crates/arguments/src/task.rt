@@ -3,7 +3,7 @@ ghost use Rattle.std.specs.Prelude.{option_map, string_bytes};
 ghost use Rattle.arguments.specs.Together.{Clashes, NamesSocket};
 
 use crate::faults::OptionFault;
-use term::NodeNames;
+use term::{NodeName, NodeNames};
 
 /// What the address begins with where it is the path of a socket.
 const SOCKET: &str = "unix:";
@@ -18,6 +18,17 @@ pub enum Task {
     Script,
     /// Nodes are run, and consoles are served over the network.
     Serve(ServeOptions),
+    /// One node is run by the lines of standard input.
+    Node(NodeOptions),
+}
+
+/// What `node` is told.
+#[derive(Debug, Drop)]
+pub struct NodeOptions {
+    /// The node, which is one of the world.
+    pub node: NodeName,
+    /// All nodes of the world.
+    pub world: NodeNames,
 }
 
 /// What `serve` is told.

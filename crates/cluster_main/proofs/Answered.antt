@@ -7,10 +7,11 @@ use Rattle.clap.specs.declared.error.Error.{Error}
 use Rattle.arguments.specs.CommandLine.{program, refusals, value_in}
 use Rattle.arguments.specs.Reading.{Asks, Refuses, RefusesOptionsOf}
 use Rattle.arguments.specs.declared.faults.ArgFault.{ArgFault}
-use Rattle.arguments.specs.declared.faults.ArgFault.TheVariants.{Options, Words, Text, SameNode, TooManyNodes}
+use Rattle.arguments.specs.declared.faults.ArgFault.TheVariants.{Options, Words, Text, SameNode, TooManyNodes, NoSuchNode}
 use Rattle.arguments.specs.declared.task.ServeOptions.{ServeOptions}
-use Rattle.arguments.specs.declared.task.Task.TheVariants.{Serve}
-use Rattle.cluster_main.specs.Answering.{DoesFor, DoesNothing, DoesTask, Streams, Told}
+use Rattle.arguments.specs.declared.task.NodeOptions.{NodeOptions}
+use Rattle.arguments.specs.declared.task.Task.TheVariants.{Script, Serve, Node}
+use Rattle.cluster_main.specs.Answering.{DoesFor, DoesNothing, DoesTask, PlaysScript, RunsNode, Streams, Told}
 use Rattle.cluster_main.specs.Refusing.{IsRefused, IsShown, IsTold, status_for}
 use Rattle.cluster_main.specs.Serving.{Serves, TellsWhy, served_status}
 use Rattle.cluster_main.specs.declared.serving.Served.{Served}
@@ -42,15 +43,20 @@ taken : (words : List Word) (s : Streams) (told : Told) (status : ℕ) → refus
     → DoesTask (subcommand_of program words) s told status → DoesFor words (refusals words) s told status
 taken words s told status e d = rw e d
 
+-- a script was played
+pub played : (words : List Word) (s : Streams) (told : Told) (status : ℕ) → Asks words Script → PlaysScript s status → Keeps told.old told.new
+    → DoesFor words (refusals words) s told status
+played words s told status a d u = taken words s told status a.taken (inl (a.asked, d, u))
+
 -- consoles were served
 pub served : (words : List Word) (o : ServeOptions) (came : Served) (s : Streams) (told : Told) (status : ℕ)
     → Asks words (Serve o) → Keeps s.input s.rest → Serves o s.old s.new came → TellsWhy o told.old told.new came
     → status ≡ served_status came
     → DoesFor words (refusals words) s told status
 served words o came s told status a u d y e =
-    taken words s told status a.taken (inr (
+    taken words s told status a.taken (inr (inl (
       a.asked.0,
-      inl (record {
+      record {
         options = o;
         served = came;
         given = a.asked.1;
@@ -58,17 +64,23 @@ served words o came s told status a u d y e =
         serves = d;
         why = y;
         status_is = e;
-      }),
-    ))
+      },
+    )))
 
--- the lists of nodes were refused, or the options
+-- a node was run
+pub ran : (words : List Word) (o : NodeOptions) (s : Streams) (told : Told) (status : ℕ) → Asks words (Node o) → RunsNode o s status
+    → Keeps told.old told.new → DoesFor words (refusals words) s told status
+ran words o s told status a d u = taken words s told status a.taken (inr (inr (inl (
+  a.asked.0,
+  record { options = o; given = a.asked.1; runs = d; untold = u },
+))))
+
+-- what stands behind the subcommand was refused
 listed : (words : List Word) (fault : ArgFault) (s : Streams) (told : Told) (status : ℕ) → RefusesOptionsOf words fault
     → Keeps s.input s.rest → IsTold fault s.old s.new told.old told.new status
     → DoesFor words (refusals words) s told status
-listed words fault s told status r u d = taken words s told status r.taken (inr (
-  r.serves,
-  inr (record { fault = fault; refused = r.refused; unread = u; answered = d }),
-))
+listed words fault s told status r u d =
+    taken words s told status r.taken (inr (inr (inr (record { fault = fault; refused = r.refused; unread = u; answered = d }))))
 
 -- the words were refused
 pub refused : (words : List Word) (fault : ArgFault) (s : Streams) (told : Told) (status : ℕ) → Refuses words fault
@@ -78,4 +90,5 @@ refused words (Words e) s told status r u d = shown words (refusals words) e s t
 refused words (Text f) s told status r u d = inl (listed words (Text f) s told status r u d)
 refused words SameNode s told status r u d = inl (listed words SameNode s told status r u d)
 refused words TooManyNodes s told status r u d = inl (listed words TooManyNodes s told status r u d)
+refused words NoSuchNode s told status r u d = inl (listed words NoSuchNode s told status r u d)
 refused words (Options f) s told status r u d = inl (listed words (Options f) s told status r u d)

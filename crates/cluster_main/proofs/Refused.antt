@@ -6,10 +6,10 @@ use Rattle.text_lines.specs.Writing.{AppendsPart, Writes}
 use Rattle.text_lines.proofs.Written.{Writes-partly}
 use Rattle.arguments.specs.Faults.{option_text, word_of}
 use Rattle.arguments.specs.declared.faults.ArgFault.{ArgFault}
-use Rattle.arguments.specs.declared.faults.ArgFault.TheVariants.{Options, Words, Text, SameNode, TooManyNodes}
+use Rattle.arguments.specs.declared.faults.ArgFault.TheVariants.{Options, Words, Text, SameNode, TooManyNodes, NoSuchNode}
 use Rattle.arguments.specs.declared.faults.OptionFault.{OptionFault}
 use Rattle.server.specs.Printing.{ended, error_line}
-use Rattle.cluster_main.specs.Refusing.{IsRefused, RefusesValue, refusal}
+use Rattle.cluster_main.specs.Refusing.{IsRefused, IsTold, RefusesValue, fault_line, refusal}
 
 -- nothing is a part of each line
 nothing_told : (a b : Option (List ℕ)) (line : List ℕ) → Keeps a b → AppendsPart a b line
@@ -40,29 +40,23 @@ option_refused f a c d r text is w = record {
   status_is = refl;
 }
 
+-- the word of a fault was told
+word_told : {T E : Type 0} (f : ArgFault) (a c d : Option (List ℕ)) (r : Result T E) (word : List ℕ) → fault_line f ≡ Some (error_line word)
+    → Writes c d r (error_line word) → IsTold f a a c d 2
+word_told f a c d r word is w = record {
+  line = error_line word;
+  line_is = is;
+  unprinted = Keeps-refl a;
+  told = Writes-partly c d r _ w;
+  status_is = refl;
+}
+
 -- a fault of the nodes was told of
 pub nodes_refused : {T E : Type 0} (f : ArgFault) (a c d : Option (List ℕ)) (r : Result T E) (word : List ℕ) → word_of f ≡ Some word
     → Writes c d r (error_line word) → IsRefused f a a c d 2
 nodes_refused (Words e) a c d r word is w = cc
 nodes_refused (Options f) a c d r word is w = cc
-nodes_refused (Text f) a c d r word is w = record {
-  line = error_line word;
-  line_is = ap (option_map error_line) is;
-  unprinted = Keeps-refl a;
-  told = Writes-partly c d r _ w;
-  status_is = refl;
-}
-nodes_refused SameNode a c d r word is w = record {
-  line = error_line word;
-  line_is = ap (option_map error_line) is;
-  unprinted = Keeps-refl a;
-  told = Writes-partly c d r _ w;
-  status_is = refl;
-}
-nodes_refused TooManyNodes a c d r word is w = record {
-  line = error_line word;
-  line_is = ap (option_map error_line) is;
-  unprinted = Keeps-refl a;
-  told = Writes-partly c d r _ w;
-  status_is = refl;
-}
+nodes_refused (Text f) a c d r word is w = word_told (Text f) a c d r word (ap (option_map error_line) is) w
+nodes_refused SameNode a c d r word is w = word_told SameNode a c d r word (ap (option_map error_line) is) w
+nodes_refused TooManyNodes a c d r word is w = word_told TooManyNodes a c d r word (ap (option_map error_line) is) w
+nodes_refused NoSuchNode a c d r word is w = word_told NoSuchNode a c d r word (ap (option_map error_line) is) w

@@ -5,15 +5,18 @@ use Rattle.clap.specs.Words.{IsAmong, Kinds, Text, subcommand_of}
 use Rattle.clap.specs.declared.error.kind.ErrorKind.{ErrorKind}
 use Rattle.cluster_script.specs.Script.{Ran, Stopped}
 use Rattle.text_lines.specs.declared.faults.StreamFault.{StreamFault}
+use Rattle.node_port.specs.Ran.{NodeRan, NodeStopped}
 use Rattle.arguments.specs.CommandLine.{Entered, name_in, program, refusals, value_in}
-use Rattle.arguments.specs.Reading.{RefusesValues, TellsFine, Values}
+use Rattle.arguments.specs.Reading.{RefusesIn, TellsFine, TellsNode, Values}
 use Rattle.arguments.specs.declared.faults.ArgFault.{ArgFault}
+use Rattle.arguments.specs.declared.task.NodeOptions.{NodeOptions}
 use Rattle.arguments.specs.declared.task.ServeOptions.{ServeOptions}
 use Rattle.cluster_main.specs.Refusing.{IsTold, status_for}
 use Rattle.cluster_main.specs.Serving.{Serves, TellsWhy, served_status}
 use Rattle.cluster_main.specs.declared.serving.Served.{Served}
 
--- the status for a script that was played: 0 where it ended with no fault and printed no refusal, and else 1
+-- the status for lines that were done: 0 where they ended with no fault and, of a script, no refusal was printed, or, at a node, each line
+-- of a link was the next of it and each step had a stamp; and else 1
 abbrev pub status_of : Result Bool StreamFault → ℕ
 status_of (Ok fine) = if fine then 0 else 1
 status_of (Err f) = 1
@@ -37,6 +40,14 @@ pub record PlaysScript (s : Streams) (status : ℕ) : Type 0 where
   pub runs : MatchResult played (Ran s.input s.rest s.old printed) (Stopped s.input s.rest s.old printed)
   pub flushed : Keeps printed s.new
   pub status_is : (status ≡ status_of played) ⊎ (status ≡ 1)
+
+-- a node was run by lines, with the status for it, or 1 where what it printed couldn't be handed on
+pub record RunsNode (o : NodeOptions) (s : Streams) (status : ℕ) : Type 0 where
+  pub ran : Result Bool StreamFault
+  pub printed : Option (List ℕ)
+  pub runs : MatchResult ran (NodeRan o.node o.world s.input s.rest s.old printed) (NodeStopped o.node o.world s.input s.rest s.old printed)
+  pub flushed : Keeps printed s.new
+  pub status_is : (status ≡ status_of ran) ⊎ (status ≡ 1)
 
 -- words of these kinds were answered with help, the version or an error: nothing is read, and for an error
 -- nothing is printed; the status is 1 also where help or the version can't be written
@@ -62,20 +73,28 @@ pub record ServesConsoles (value : Values) (s : Streams) (told : Told) (status :
   pub why : TellsWhy options told.old told.new served
   pub status_is : status ≡ served_status served
 
--- the lists of nodes that these values give were refused, or the options, and the line for it was told
-pub record TellsFault (value : Values) (s : Streams) (told : Told) (status : ℕ) : Type 0 where
+-- what stands behind the subcommand was refused, and the line for it was told
+pub record TellsFault (entered : Entered) (s : Streams) (told : Told) (status : ℕ) : Type 0 where
   pub fault : ArgFault
-  pub refused : RefusesValues value fault
+  pub refused : RefusesIn entered fault
   pub unread : Keeps s.input s.rest
   pub answered : IsTold fault s.old s.new told.old told.new status
 
--- what is done for a subcommand: a script is played, and nothing told on standard error; or consoles are served, unless the
--- lists of nodes or the options are refused
+-- a node was run as these values say, and nothing told on standard error
+pub record RunsTold (value : Values) (s : Streams) (told : Told) (status : ℕ) : Type 0 where
+  pub options : NodeOptions
+  pub given : TellsNode value options
+  pub runs : RunsNode options s status
+  pub untold : Keeps told.old told.new
+
+-- what is done for a subcommand: a script is played, and nothing told on standard error; or consoles are served, or a node is run, unless
+-- what stands behind the subcommand is refused
 abbrev pub DoesTask : Entered → Streams → Told → ℕ → Type 0
 DoesTask entered s told status =
     ((name_in entered ≡ Some (codes "script")) × PlaysScript s status × Keeps told.old told.new)
-    ⊎ ((name_in entered ≡ Some (codes "serve"))
-    × (ServesConsoles (value_in entered) s told status ⊎ TellsFault (value_in entered) s told status))
+    ⊎ ((name_in entered ≡ Some (codes "serve")) × ServesConsoles (value_in entered) s told status)
+    ⊎ ((name_in entered ≡ Some (codes "node")) × RunsTold (value_in entered) s told status)
+    ⊎ TellsFault entered s told status
 
 -- what is done for words whose parse may give these kinds
 abbrev pub DoesFor : List Text → Kinds → Streams → Told → ℕ → Type 0

@@ -3,7 +3,7 @@ ghost use Rattle.std.specs.Prelude.{map, option_map, string_bytes};
 ghost use Rattle.std.specs.Io.Buffered.{reader_remaining};
 ghost use Rattle.cluster_main.specs.Answering.{Does};
 
-use crate::playing::play;
+use crate::playing::{play, run};
 use crate::refusing::refuse;
 use crate::serving::serve;
 use arguments::{Task, read_args};
@@ -46,6 +46,7 @@ where
     };
     match read_args(alloc, words) {
         Ok(Task::Script) => play(alloc, reader, writer),
+        Ok(Task::Node(options)) => run(alloc, &options, reader, writer),
         Ok(Task::Serve(options)) => serve(rt, alloc, &options, writer, errors).status(),
         Err(fault) => refuse(&fault, writer, errors),
     }

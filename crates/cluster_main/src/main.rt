@@ -1,4 +1,4 @@
-//! The program: plays a script of cluster-wide names, or serves nodes to consoles over the network.
+//! The program: plays a script of cluster-wide names, serves nodes to consoles over the network, or runs one node by lines.
 #![tactic(auto)]
 
 mod answering;

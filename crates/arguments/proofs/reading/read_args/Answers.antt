@@ -1,9 +1,11 @@
 use Rattle.std.proofs.Common.{◌≡◌, ◌∙◌, ap, sym, map, string_bytes, [], subst}
 use Rattle.clap.specs.Words.{App, HasKind, fault_of, is_simple, is_simple_and_free, subcommand_of, subcommand_rows_of}
 use Rattle.arguments.specs.CommandLine.{program, refusals}
-use Rattle.arguments.specs.Reading.{IsLooked}
+use Rattle.arguments.specs.Reading.{Asks, IsLooked, Refuses}
+use Rattle.arguments.specs.declared.faults.ArgFault.TheVariants.{Words}
 use Rattle.arguments.proofs.Words.{is_free, is_plain}
-use Rattle.arguments.proofs.Looked.{asked_by, looked, refused_by}
+use Rattle.arguments.proofs.Counted.{handed_on}
+use Rattle.arguments.proofs.Looked.{asked_by, looked}
 use Rattle.arguments.proofs.reading.read_args.Goals as goal
 
 pub read_matches-requires : goal.read_matches-requires
@@ -20,7 +22,7 @@ returns-in_err-matches-clause-task c =
     let words = map string_bytes c.args.words.now in
     let e = c.in_ok-command.ensures in
     let error = c.in_err-matches.field-0.0 in
-    refused_by words c.from_residual-in_err-matches.result error c.from_residual-in_err-matches.ensures.1
+    handed_on (Asks words) (Refuses words) c.from_residual-in_err-matches.result (Words error) c.from_residual-in_err-matches.ensures.1
     (subst (λ (a : App). HasKind (fault_of a words) error) e (c.in_err-matches.ensures.kinds (ap is_simple_and_free e ∙ is_free)))
 
 pub returns-clause-task : goal.returns-clause-task

@@ -3,7 +3,8 @@ use Rattle.clap.specs.Words.{first_of, found_of, one_of, rows_of}
 use Rattle.clap.proofs.CallerLemmas.{some_of_text}
 use Rattle.clap.proofs.WalkLemmas.{first_value-rows, one_text-rows}
 use Rattle.arguments.specs.Nodes.{PlacesNodes}
-use Rattle.arguments.proofs.Counted.{fails_so, flag_read, lists_refused}
+use Rattle.arguments.specs.Reading.{RefusesTold, Tells, Values}
+use Rattle.arguments.proofs.Counted.{flag_read, handed_on, lists_refused}
 use Rattle.arguments.proofs.reading.read_told.Goals as goal
 
 pub unwrap-listen-requires : goal.unwrap-listen-requires
@@ -19,7 +20,8 @@ returns-in_err-cluster c =
     let f = found_of c.args.matches.now in
     let nodes : first_of (codes "nodes") (rows_of f) ≡ Some c.unwrap-nodes.result.now =
     sym (c.get_str-2.ensures ∙ first_value-rows f (codes "nodes")) ∙ ap (option_map (λ (s : Bor (List ℕ)). s.now)) c.unwrap-nodes.ensures in
-    fails_so _ c.from_residual.result c.in_err-cluster.field-0.0 c.from_residual.ensures.1
+    let values : Values = λ id. first_of id (rows_of f) in
+    handed_on (Tells values) (RefusesTold values) c.from_residual.result c.in_err-cluster.field-0.0 c.from_residual.ensures.1
     (lists_refused _ c.unwrap-nodes.result.now _ c.in_err-cluster.field-0.0 nodes
     (c.get_str-3.ensures ∙ first_value-rows f (codes "lone")) c.in_err-cluster.ensures)
 

@@ -5,7 +5,7 @@ use Rattle.clap.specs.Words.{Text, subcommand_of}
 use Rattle.arguments.specs.CommandLine.{program, value_in}
 use Rattle.arguments.specs.Reading.{Asks}
 use Rattle.cluster_main.specs.Answering.{Streams, Told}
-use Rattle.cluster_main.proofs.Answered.{refused, served}
+use Rattle.cluster_main.proofs.Answered.{played, ran, refused, served}
 use Rattle.cluster_main.proofs.Placed.{ready}
 use Rattle.cluster_main.proofs.answering.answer.Goals as goal
 
@@ -31,6 +31,44 @@ returns-in-Ok-Serve g c =
     let task = subst (Asks words) c.in-Ok-Serve.field-0-is c.in-Ok-Serve.ensures.task in
     let d = served words c.in-Ok-Serve.options c.serve.result s told c.status.result task
     (Keeps-refl (reader_remaining g.R.Read.remaining c.args.reader.now)) c.serve.ensures.serves c.serve.ensures.why c.status.ensures in
+    rw c.in-Some.is (inl d)
+
+pub returns-in-Ok-Script : goal.returns-in-Ok-Script
+returns-in-Ok-Script g c =
+    let s : Streams = record {
+      input = reader_remaining g.R.Read.remaining c.args.reader.now;
+      rest = reader_remaining g.R.Read.remaining c.play.new.reader;
+      old = g.W.Write.contents c.args.writer.now;
+      new = g.W.Write.contents c.play.new.writer;
+    } in
+    let told : Told = record {
+      old = g.E.Write.contents c.args.errors.now;
+      new = g.E.Write.contents c.args.errors.now;
+    } in
+    let words : List Text = map string_bytes c.in-Some.words.now in
+    let task = subst (Asks words) c.in-Ok-Script.field-0-is c.in-Ok-Script.ensures.task in
+    let d = played words s told c.play.result task c.play.ensures (Keeps-refl (g.E.Write.contents c.args.errors.now)) in
+    rw c.in-Some.is (inl d)
+
+pub run-requires : goal.run-requires
+run-requires g c = (subst (Asks (map string_bytes c.in-Some.words.now)) c.in-Ok-Node.field-0-is c.in-Ok-Node.ensures.task).asked.1.placed.known
+
+pub returns-in-Ok-Node : goal.returns-in-Ok-Node
+returns-in-Ok-Node g c =
+    let s : Streams = record {
+      input = reader_remaining g.R.Read.remaining c.args.reader.now;
+      rest = reader_remaining g.R.Read.remaining c.run.new.reader;
+      old = g.W.Write.contents c.args.writer.now;
+      new = g.W.Write.contents c.run.new.writer;
+    } in
+    let told : Told = record {
+      old = g.E.Write.contents c.args.errors.now;
+      new = g.E.Write.contents c.args.errors.now;
+    } in
+    let words : List Text = map string_bytes c.in-Some.words.now in
+    let task = subst (Asks words) c.in-Ok-Node.field-0-is c.in-Ok-Node.ensures.task in
+    let d = ran words c.in-Ok-Node.options s told c.run.result task c.run.ensures
+    (Keeps-refl (g.E.Write.contents c.args.errors.now)) in
     rw c.in-Some.is (inl d)
 
 pub returns-in-Err : goal.returns-in-Err

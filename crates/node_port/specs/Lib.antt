@@ -1,0 +1,11 @@
+pub use Rattle.wire_end.specs.Dealings
+pub mod Numbers
+pub mod Asking
+pub mod Commands
+pub mod Shown
+pub mod Edits
+pub mod Deeds
+pub mod Soundness
+pub mod Playing
+pub mod Ran
+pub mod Working

@@ -1,0 +1,419 @@
+//! A node and its end of lines.
+ghost use Rattle.std.specs.Prelude.{◌≡◌, ◌∷◌, [], true, Some, IfOk, if◌then◌else◌};
+ghost use Rattle.std.specs.List.{All};
+ghost use Rattle.term.specs.NodeSets.{set_of};
+ghost use Rattle.term.specs.Nodes.{IsFirst};
+ghost use Rattle.node_loop.specs.Coming.{begun};
+ghost use Rattle.wire_end.specs.Wirings.{begun as begun_end};
+ghost use Rattle.node_port.specs.Playing.{asked};
+ghost use Rattle.node_port.specs.Ran.{core_of, opened_so};
+ghost use Rattle.node_port.specs.Working.{stands_behind, stand_of, IsEmpty};
+
+use crate::commands::{Command, Refused, line_fault};
+use crate::output::Output;
+use crate::printing::{
+    push_edit, push_gap, push_no_such_node, push_refusal, push_reply, push_spent, push_state,
+    push_steps, push_wait,
+};
+use name_table::IndexTable;
+use node_loop::{Event, ForgottenLog, NodeCore, NodeLoop, OpenGate, Task, Ticket, TurnFault};
+use std::alloc::{AllocError, Global};
+use std::io::Write;
+use term::{Node, NodeName, NodeSet, Pid};
+use text_lines::WriteFault;
+use wire_end::{HearFault, LetterFault, LinkLine, WireEnd};
+
+/// So many turns are made for a tick: as many as a refused round waits for one rival.
+const TURNS_OF_A_TICK: u32 = 16;
+
+/// The loop of the node. Of its steps none is kept, and its names are found by hashing.
+type PortLoop = NodeLoop<IndexTable<Global>, ForgottenLog>;
+
+/// How a node stands behind a line.
+#[derive(Clone, Copy, Debug, PartialEq, Eq)]
+pub(crate) enum Standing {
+    /// It goes on.
+    Runs,
+    /// It has left.
+    HasLeft,
+    /// A line wasn't the next of its link.
+    Broken,
+    /// No stamp is left for a step.
+    Spent,
+}
+
+/// A node, its end of lines, and what is to be printed.
+#[derive(Drop)]
+pub(crate) struct Port {
+    alloc: Global,
+    node: PortLoop,
+    end: WireEnd,
+    output: Output,
+    /// What was printed last of whether the node is joined, and with whom.
+    joined: bool,
+    members: NodeSet,
+}
+
+/// The loop of this node of a world, which is joined, with itself, where it founds its cluster, and else lone.
+fn open_loop(
+    alloc: Global,
+    node: &Node,
+    world: &NodeSet,
+    founds: bool,
+) -> Result<PortLoop, AllocError>
+    requires known { set_of world.now node.now ≡ true }
+    requires first { All IsFirst world.now }
+    ensures { IfOk result (λ new. new ≡ begun 0 (core_of node.now world.now founds)) }
+{
+    let members = NodeSet::one(node.copy());
+    NodeLoop::new(
+        alloc,
+        NodeCore::new(alloc, node.copy(), world, &members, founds),
+        0,
+    )
+}
+
+/// Whether the node has left, or goes on.
+fn standing_of(has_left: bool) -> Standing
+    ensures { result ≡ stands_behind has_left }
+{
+    if has_left {
+        Standing::HasLeft
+    } else {
+        Standing::Runs
+    }
+}
+
+/// What is asked under a tag.
+fn task_of(tag: u64, event: Event) -> Task
+    ensures { result ≡ asked tag event }
+{
+    let ticket = Ticket {
+        seat: 0,
+        slot: 0,
+        number: tag,
+    };
+    Task {
+        ticket: Some(ticket),
+        event,
+    }
+}
+
+impl Port {
+    ghost use Rattle.std.specs.Prelude.{◌≡◌, ◌∷◌, ◌++◌, [], true, ℕ, List, None, OnOk, IfOk, string_bytes, if◌then◌else◌};
+    ghost use Rattle.text_lines.specs.Writing.{Writes};
+    ghost use Rattle.node_loop.specs.declared.edit.Note.TheVariants.{Nothing};
+    ghost use Rattle.wire_end.specs.declared.faults.HearFault.{HearFault};
+    ghost use Rattle.wire_end.specs.declared.faults.HearFault.TheVariants.{Part};
+    ghost use Rattle.node_port.specs.Commands.{Taken, Follows, Refused as RefusedSo, TakenAs};
+    ghost use Rattle.node_port.specs.Deeds.{Does, Turn};
+    ghost use Rattle.node_port.specs.Edits.{Stood};
+    ghost use Rattle.node_port.specs.Playing.{spent, is_waiting, waiting};
+    ghost use Rattle.node_port.specs.Working.{stand_of, Grows, IsEmpty, ShowsAll, GoesOn, ComesTo, Concludes, Settles, RefusesFor, PlaysAt, ShowsStill};
+    ghost use Rattle.node_port.specs.declared.commands.Command.TheVariants.{Ask, Steps, Letter, Down, Tick};
+    ghost use Rattle.node_port.specs.declared.port.Standing.{Standing};
+    ghost use Rattle.node_port.specs.declared.port.Standing.TheVariants.{Runs};
+
+    /// This node of a world, before its first step.
+    pub(crate) fn open(
+        alloc: Global,
+        node: &Node,
+        world: &NodeSet,
+        founds: bool,
+    ) -> Result<Self, AllocError>
+        requires known { set_of world.now node.now ≡ true }
+        requires first { All IsFirst world.now }
+        ensures opened { IfOk result (λ port. stand_of port ≡ opened_so node.now world.now founds) }
+        ensures empty { IfOk result (λ port. IsEmpty port.output) }
+    {
+        let opened = open_loop(alloc, node, world, founds)?;
+        let end = WireEnd::new(alloc, node.copy(), world)?;
+        Ok(Port {
+            alloc,
+            node: opened,
+            end,
+            output: Output::new(alloc),
+            joined: founds,
+            members: NodeSet::one(node.copy()),
+        })
+    }
+
+    /// The name of the node.
+    pub(crate) fn name(&self) -> NodeName {
+        self.node.node().name().copy()
+    }
+
+    /// The process that was spawned last, if one was.
+    pub(crate) fn last_process(&self) -> Option<Pid> {
+        let serial = self.node.numbers().serials;
+        if serial == 0 {
+            return None;
+        }
+        Some(Pid {
+            node: self.node.node().copy(),
+            serial,
+        })
+    }
+
+    /// Prints whether the node is joined, and with whom.
+    pub(crate) fn show_state(&mut self) -> Result<(), AllocError>
+        ensures stand { stand_of self.new ≡ stand_of self.old }
+        ensures shown { OnOk result (Grows (Stood self.old.node.core.joined self.old.node.core.members ∷ []) [] self.old.output self.new.output) }
+    {
+        self.joined = self.node.is_joined();
+        self.members = self.node.members().copy();
+        push_state(&mut self.output.changes, self.joined, &self.members)
+    }
+
+    /// Prints whether the node is joined, and with whom, where that isn't what was printed last.
+    fn show_new_state(&mut self) -> Result<(), AllocError>
+        ensures still { OnOk result (ShowsStill self.old self.new) }
+        ensures node { self.new.node ≡ self.old.node }
+    {
+        if self.joined != self.node.is_joined() || self.members != *self.node.members() {
+            return self.show_state();
+        }
+        Ok(())
+    }
+
+    /// Prints what the last turn did to the table.
+    fn show_update(&mut self) -> Result<(), AllocError>
+        ensures still { OnOk result (ShowsStill self.old self.new) }
+        ensures all { OnOk result (self.new.node.owed.note ≡ Nothing) }
+    {
+        match self.node.next_update(self.alloc)? {
+            Some(update) => push_edit(&mut self.output.changes, &update.edit),
+            None => Ok(()),
+        }
+    }
+
+    /// Prints what the last turn replied.
+    fn show_replies(&mut self) -> Result<(), AllocError>
+        ensures still { OnOk result (ShowsStill self.old self.new) }
+        ensures all { OnOk result (self.new.node.desk.replies ≡ []) }
+        ensures owed { self.new.node.owed ≡ self.old.node.owed }
+    {
+        while let Some(reply) = self.node.next_reply() {
+            push_reply(&mut self.output.answers, self.alloc, reply)?;
+        }
+        Ok(())
+    }
+
+    /// Prints what the last turn did and replied.
+    fn show(&mut self) -> Result<(), AllocError>
+        ensures { OnOk result (ShowsAll self.old self.new) }
+    {
+        self.show_update()?;
+        self.show_new_state()?;
+        self.show_replies()
+    }
+
+    /// One turn, of which nothing is printed yet.
+    fn make_turn(&mut self) -> Result<(), TurnFault>
+        ensures turned { Does (Turn result) (stand_of self.old) (stand_of self.new) }
+        ensures output { self.new.output ≡ self.old.output }
+    {
+        self.node.turn(&mut self.end, &OpenGate)
+    }
+
+    /// One turn, and what it prints: why the loop can't go on, where it can't.
+    fn turn(&mut self) -> Result<(), TurnFault>
+        ensures { ComesTo result self.old self.new }
+    {
+        let outcome = self.make_turn();
+        self.show()?;
+        outcome
+    }
+
+    /// Turns until one finds nothing to do.
+    fn settle(&mut self) -> Result<(), TurnFault>
+        ensures { ComesTo result self.old self.new }
+    {
+        for _ in 0..u64::MAX {
+            self.turn()?;
+            if !self.node.worked() {
+                break;
+            }
+        }
+        Ok(())
+    }
+
+    /// The turns of a tick.
+    fn turn_for_a_tick(&mut self) -> Result<(), TurnFault>
+        ensures { ComesTo result self.old self.new }
+    {
+        for _ in 0..TURNS_OF_A_TICK {
+            self.turn()?;
+        }
+        Ok(())
+    }
+
+    /// Time went by.
+    fn pass_time(&mut self) -> Result<(), TurnFault>
+        ensures { ComesTo result self.old self.new }
+    {
+        self.turn_for_a_tick()?;
+        self.settle()
+    }
+
+    /// How the node stands behind turns; where no stamp is left for a step, that is printed.
+    fn conclude(&mut self, outcome: Result<(), TurnFault>) -> Result<Standing, AllocError>
+        ensures { IfOk result (λ standing. Concludes outcome standing self.old self.new) }
+    {
+        match outcome {
+            Ok(()) => Ok(standing_of(self.node.has_left())),
+            Err(TurnFault::StampsSpent) => {
+                push_spent(&mut self.output.answers)?;
+                Ok(Standing::Spent)
+            }
+            Err(TurnFault::Memory) => Err(AllocError),
+        }
+    }
+
+    /// Turns until one finds nothing to do: how the node stands then.
+    fn settled(&mut self) -> Result<Standing, AllocError>
+        ensures { IfOk result (λ standing. Settles standing self.old self.new) }
+    {
+        let outcome = self.settle();
+        self.conclude(outcome)
+    }
+
+    /// The node is asked for an event.
+    fn ask(&mut self, tag: u64, event: Event) -> Result<Standing, AllocError>
+        ensures { IfOk result (λ standing. PlaysAt (Follows (Ask tag event)) standing (spent standing) self.old self.new) }
+    {
+        self.end.ask(task_of(tag, event))?;
+        self.settled()
+    }
+
+    /// Time went by.
+    fn tick(&mut self) -> Result<Standing, AllocError>
+        ensures { IfOk result (λ standing. PlaysAt (Follows Tick) standing (spent standing) self.old self.new) }
+    {
+        let outcome = self.pass_time();
+        self.conclude(outcome)
+    }
+
+    /// Prints why a line of a link isn't taken that says no part of the letter that the lines before it began.
+    fn refuse_part(&mut self, fault: LetterFault) -> Result<Standing, AllocError>
+        ensures stand { stand_of self.new ≡ stand_of self.old }
+        ensures refused { (from number : ℕ) → IfOk result (λ standing. RefusesFor (Part fault) from number standing self.old self.new) }
+    {
+        match fault {
+            LetterFault::Memory => Err(AllocError),
+            _ => {
+                push_refusal(&mut self.output.answers, None, &line_fault(fault))?;
+                Ok(Standing::Runs)
+            }
+        }
+    }
+
+    /// Prints why a line of a link, or the word that a node is gone, isn't taken.
+    fn refuse_heard(
+        &mut self,
+        from: &Node,
+        number: u64,
+        fault: HearFault,
+    ) -> Result<Standing, AllocError>
+        ensures stand { stand_of self.new ≡ stand_of self.old }
+        ensures refused { IfOk result (λ standing. RefusesFor fault from.now number standing self.old self.new) }
+    {
+        match fault {
+            HearFault::Gap => {
+                push_gap(&mut self.output.answers, from, number)?;
+                Ok(Standing::Broken)
+            }
+            HearFault::NoSuchNode => {
+                push_no_such_node(&mut self.output.answers)?;
+                Ok(Standing::Runs)
+            }
+            HearFault::Part(fault) => self.refuse_part(fault),
+        }
+    }
+
+    /// A line of a link came.
+    fn hear(&mut self, from: &Node, line: LinkLine) -> Result<Standing, AllocError>
+        ensures { IfOk result (λ standing. (taken : Taken) × TakenAs (Letter from.now line) taken × PlaysAt taken standing (spent standing) self.old self.new) }
+    {
+        let number = line.number;
+        match self.end.hear(from, line) {
+            Ok(()) => self.settled(),
+            Err(fault) => self.refuse_heard(from, number, fault),
+        }
+    }
+
+    /// Another node is gone without a word.
+    fn lose(&mut self, node: &Node) -> Result<Standing, AllocError>
+        ensures { IfOk result (λ standing. (taken : Taken) × TakenAs (Down node.now) taken × PlaysAt taken standing (spent standing) self.old self.new) }
+    {
+        match self.end.lose(node) {
+            Ok(()) => self.settled(),
+            Err(fault) => self.refuse_heard(node, 0, fault),
+        }
+    }
+
+    /// Prints how many steps the node has made.
+    fn count(&mut self, tag: u64) -> Result<Standing, AllocError>
+        ensures { IfOk result (λ standing. PlaysAt (Follows (Steps tag)) standing (spent standing) self.old self.new) }
+    {
+        let steps = self.node.numbers().steps;
+        push_steps(&mut self.output.answers, tag, steps)?;
+        Ok(Standing::Runs)
+    }
+
+    /// Does what a line says, and gives how the node stands behind it.
+    pub(crate) fn play(&mut self, command: Command) -> Result<Standing, AllocError>
+        ensures { IfOk result (λ standing. (taken : Taken) × TakenAs command taken × PlaysAt taken standing (spent standing) self.old self.new) }
+    {
+        match command {
+            Command::Ask(tag, event) => self.ask(tag, event),
+            Command::Tick => self.tick(),
+            Command::Letter(from, line) => self.hear(&from, line),
+            Command::Down(node) => self.lose(&node),
+            Command::Steps(tag) => self.count(tag),
+        }
+    }
+
+    /// Prints why a line is refused. Nothing else changes.
+    pub(crate) fn refuse(&mut self, refused: &Refused) -> Result<(), AllocError>
+        ensures { OnOk result (PlaysAt (RefusedSo refused.now.tag refused.now.fault) Runs [] self.old self.new) }
+    {
+        let Refused { tag, fault } = refused;
+        push_refusal(&mut self.output.answers, *tag, fault)
+    }
+
+    /// Whether the node runs, and something waits to be tried again.
+    fn waits(&self, standing: Standing) -> bool
+        ensures { result ≡ is_waiting standing self.now.node }
+    {
+        match standing {
+            Standing::Runs => self.node.owes(),
+            Standing::HasLeft | Standing::Broken | Standing::Spent => false,
+        }
+    }
+
+    /// Says that something waits to be tried again, where it does, and the node runs.
+    pub(crate) fn show_waiting(&mut self, standing: Standing) -> Result<(), AllocError>
+        ensures stand { stand_of self.new ≡ stand_of self.old }
+        ensures shown { OnOk result (Grows [] (waiting standing self.old.node) self.old.output self.new.output) }
+    {
+        if !self.waits(standing) {
+            return Ok(());
+        }
+        push_wait(&mut self.output.answers)
+    }
+
+    /// Writes what is to be printed, which isn't any more then.
+    pub(crate) fn write<W: Write>(&mut self, writer: &mut W) -> Result<(), WriteFault>
+        ensures written { Writes (W.contents writer.old) (W.contents writer.new) result
+            (string_bytes self.old.output.changes ++ (self.old.end.orders ++ (self.old.end.lines ++ string_bytes self.old.output.answers))) }
+        ensures node { self.new.node ≡ self.old.node }
+        ensures end { self.new.end ≡ record self.old.end { lines = []; orders = [] } }
+        ensures empty { OnOk result (IsEmpty self.new.output) }
+    {
+        let orders = self.end.take_orders();
+        let lines = self.end.take_lines();
+        self.output
+            .write_out(orders.as_str(), lines.as_str(), writer)
+    }
+}

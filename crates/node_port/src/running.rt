@@ -1,0 +1,272 @@
+//! A node from its first line to its end.
+ghost use Rattle.std.specs.Prelude.{◌≡◌, ◌⊎◌, ◌++◌, ℕ, List, true, false, codes, bytes_eq, MatchResult, OnOk, IfOk};
+ghost use Rattle.std.specs.List.{All};
+ghost use Rattle.std.specs.Io.Buffered.{reader_remaining};
+ghost use Rattle.std.specs.Io.KnownBytes.{Keeps};
+ghost use Rattle.text_lines.specs.Lines.{IsKept};
+ghost use Rattle.term.specs.Nodes.{IsFirst};
+ghost use Rattle.term.specs.NodeSets.{set_of};
+ghost use Rattle.node_port.specs.Commands.{Taken, IsTaken};
+ghost use Rattle.node_port.specs.Playing.{spent, waiting};
+ghost use Rattle.node_port.specs.Ran.{opened_so, Ends, NodeRan, NodeStopped};
+ghost use Rattle.node_port.specs.Working.{stand_of, IsEmpty, PlaysAt, PlaysOn, StopsOn, PrintsLine, PrintsPart, OpensBy, StopsBy, TakesNext, StopsNext, FoundsBy, Founds, PlaysTo, GoesBehind, StopsBehind, RunsFrom, StopsFrom};
+ghost use Rattle.node_port.specs.declared.port.Standing.TheVariants.{Runs};
+
+use crate::commands::{read_command, says_founds};
+use crate::port::{Port, Standing};
+use std::alloc::{AllocError, Global};
+use std::io::{BufReader, Read, Write};
+use term::{Node, NodeSet};
+use text_lines::{Line, MOST_LINES, StreamFault, hand_on, read_line};
+
+/// The next line of a reader, or none at its end. What was written is handed on before the reader waits.
+fn next_line<R: Read, W: Write>(
+    room: Vec<u8>,
+    reader: &mut BufReader<R, Global>,
+    writer: &mut W,
+) -> Result<Option<Line>, StreamFault>
+    ensures read { MatchResult result
+        (TakesNext (reader_remaining R.remaining reader.old) (reader_remaining R.remaining reader.new))
+        (λ fault. StopsNext (reader_remaining R.remaining reader.old) (reader_remaining R.remaining reader.new)) }
+    ensures kept { Keeps (W.contents writer.old) (W.contents writer.new) }
+{
+    let mut left = MOST_LINES;
+    read_line(room, reader, writer, &mut left)
+}
+
+/// Does what a line says, or refuses it: how the node stands behind it.
+fn take_line(alloc: Global, port: &mut Port, line: &Line) -> Result<Standing, AllocError>
+    ensures { (bytes : List ℕ) → IsKept bytes line.now → IfOk result
+        (λ standing. (taken : Taken) × IsTaken bytes taken × PlaysAt taken standing (spent standing) port.old port.new) }
+{
+    let own = port.last_process();
+    let node = port.name();
+    match read_command(alloc, line, own.as_ref(), &node) {
+        Ok(command) => port.play(command),
+        Err(refused) => {
+            port.refuse(&refused)?;
+            Ok(Standing::Runs)
+        }
+    }
+}
+
+/// The same, and says where something waits to be tried again.
+fn do_line(alloc: Global, port: &mut Port, line: &Line) -> Result<Standing, AllocError>
+    ensures { (bytes : List ℕ) → IsKept bytes line.now → IfOk result
+        (λ standing. (taken : Taken) × IsTaken bytes taken
+        × PlaysAt taken standing (spent standing ++ waiting standing port.new.node) port.old port.new) }
+{
+    let standing = take_line(alloc, port, line)?;
+    port.show_waiting(standing)?;
+    Ok(standing)
+}
+
+/// Does what a line says, or refuses it, and writes what that prints: how the node stands behind it.
+fn play_line<W: Write>(
+    alloc: Global,
+    port: &mut Port,
+    line: &Line,
+    writer: &mut W,
+) -> Result<Standing, StreamFault>
+    requires { IsEmpty port.old.output }
+    ensures played { (bytes : List ℕ) → IsKept bytes line.now → MatchResult result
+        (λ standing. PrintsLine bytes standing (stand_of port.old) (stand_of port.new) (W.contents writer.old) (W.contents writer.new))
+        (λ fault. PrintsPart bytes (stand_of port.old) (W.contents writer.old) (W.contents writer.new)
+        ⊎ Keeps (W.contents writer.old) (W.contents writer.new)) }
+    ensures empty { OnOk result (IsEmpty port.new.output) }
+{
+    let standing = do_line(alloc, port, line)?;
+    port.write(writer)?;
+    Ok(standing)
+}
+
+/// Does what lines say until they end or the node does: whether no line was out of its place.
+fn play_lines<R: Read, W: Write>(
+    alloc: Global,
+    port: &mut Port,
+    reader: &mut BufReader<R, Global>,
+    writer: &mut W,
+) -> Result<bool, StreamFault>
+    requires { IsEmpty port.old.output }
+    ensures { MatchResult result
+        (PlaysTo (stand_of port.old) (reader_remaining R.remaining reader.old) (reader_remaining R.remaining reader.new)
+        (W.contents writer.old) (W.contents writer.new) (stand_of port.new))
+        (λ fault. StopsOn (stand_of port.old) (reader_remaining R.remaining reader.old) (reader_remaining R.remaining reader.new)
+        (W.contents writer.old) (W.contents writer.new)) }
+{
+    let mut room = Vec::new(alloc);
+    for _ in 0..u64::MAX {
+        let Some(line) = next_line(room, reader, writer)? else {
+            return Ok(true);
+        };
+        match play_line(alloc, port, &line, writer)? {
+            Standing::Runs => {}
+            Standing::HasLeft => return Ok(true),
+            Standing::Broken | Standing::Spent => return Ok(false),
+        }
+        room = line.into_room(alloc);
+    }
+    Err(StreamFault::TooManyLines)
+}
+
+/// A node that founds its cluster; how it stands is to be printed.
+fn open_founder(alloc: Global, node: &Node, world: &NodeSet) -> Result<Port, AllocError>
+    requires known { set_of world.now node.now ≡ true }
+    requires first { All IsFirst world.now }
+    ensures { IfOk result (FoundsBy node.now world.now) }
+{
+    let mut port = Port::open(alloc, node, world, true)?;
+    port.show_state()?;
+    Ok(port)
+}
+
+/// Opens a node that founds its cluster, and writes how it stands.
+fn found<W: Write>(
+    alloc: Global,
+    node: &Node,
+    world: &NodeSet,
+    writer: &mut W,
+) -> Result<(Port, Standing), StreamFault>
+    requires known { set_of world.now node.now ≡ true }
+    requires first { All IsFirst world.now }
+    ensures { Founds node.now world.now (W.contents writer.old) (W.contents writer.new) result }
+{
+    let mut port = open_founder(alloc, node, world)?;
+    port.write(writer)?;
+    Ok((port, Standing::Runs))
+}
+
+/// Opens a node that is lone, and does its first line.
+fn open_lone<W: Write>(
+    alloc: Global,
+    node: &Node,
+    world: &NodeSet,
+    line: &Line,
+    writer: &mut W,
+) -> Result<(Port, Standing), StreamFault>
+    requires known { set_of world.now node.now ≡ true }
+    requires first { All IsFirst world.now }
+    ensures opened { (bytes : List ℕ) → IsKept bytes line.now → MatchResult result
+        (λ r. PrintsLine bytes r.1 (opened_so node.now world.now false) (stand_of r.0) (W.contents writer.old) (W.contents writer.new))
+        (λ fault. PrintsPart bytes (opened_so node.now world.now false) (W.contents writer.old) (W.contents writer.new)
+        ⊎ Keeps (W.contents writer.old) (W.contents writer.new)) }
+    ensures empty { IfOk result (λ r. IsEmpty r.0.output) }
+{
+    let mut port = Port::open(alloc, node, world, false)?;
+    let standing = play_line(alloc, &mut port, line, writer)?;
+    Ok((port, standing))
+}
+
+/// Opens the node by its first line: that it founds its cluster, or anything else, which is done then. Gives how it stands behind it.
+fn open_by<W: Write>(
+    alloc: Global,
+    node: &Node,
+    world: &NodeSet,
+    line: &Line,
+    writer: &mut W,
+) -> Result<(Port, Standing), StreamFault>
+    requires known { set_of world.now node.now ≡ true }
+    requires first { All IsFirst world.now }
+    ensures opened { (bytes : List ℕ) → IsKept bytes line.now → MatchResult result
+        (λ r. OpensBy (bytes_eq bytes (codes "founds")) node.now world.now bytes r.1 (stand_of r.0) (W.contents writer.old) (W.contents writer.new))
+        (λ fault. StopsBy (bytes_eq bytes (codes "founds")) node.now world.now bytes (W.contents writer.old) (W.contents writer.new)) }
+    ensures empty { IfOk result (λ r. IsEmpty r.0.output) }
+{
+    if says_founds(line) {
+        found(alloc, node, world, writer)
+    } else {
+        open_lone(alloc, node, world, line, writer)
+    }
+}
+
+/// Goes on from how a node stands behind its first line: whether no line was out of its place.
+fn go_on<R: Read, W: Write>(
+    alloc: Global,
+    port: &mut Port,
+    standing: Standing,
+    reader: &mut BufReader<R, Global>,
+    writer: &mut W,
+) -> Result<bool, StreamFault>
+    requires { IsEmpty port.old.output }
+    ensures { MatchResult result
+        (λ in_order. GoesBehind standing in_order (stand_of port.old) (reader_remaining R.remaining reader.old)
+        (reader_remaining R.remaining reader.new) (W.contents writer.old) (W.contents writer.new) (stand_of port.new))
+        (λ fault. (standing ≡ Runs) × StopsOn (stand_of port.old) (reader_remaining R.remaining reader.old) (reader_remaining R.remaining reader.new)
+        (W.contents writer.old) (W.contents writer.new)) }
+{
+    match standing {
+        Standing::Runs => play_lines(alloc, port, reader, writer),
+        Standing::HasLeft => Ok(true),
+        Standing::Broken | Standing::Spent => Ok(false),
+    }
+}
+
+/// The same, and hands on what was written in the end.
+fn run_on<R: Read, W: Write>(
+    alloc: Global,
+    port: &mut Port,
+    standing: Standing,
+    reader: &mut BufReader<R, Global>,
+    writer: &mut W,
+) -> Result<bool, StreamFault>
+    requires { IsEmpty port.old.output }
+    ensures { MatchResult result
+        (λ in_order. GoesBehind standing in_order (stand_of port.old) (reader_remaining R.remaining reader.old)
+        (reader_remaining R.remaining reader.new) (W.contents writer.old) (W.contents writer.new) (stand_of port.new))
+        (λ fault. StopsBehind standing (stand_of port.old) (reader_remaining R.remaining reader.old) (reader_remaining R.remaining reader.new)
+        (W.contents writer.old) (W.contents writer.new)) }
+{
+    let in_order = go_on(alloc, port, standing, reader, writer)?;
+    hand_on(writer)?;
+    Ok(in_order)
+}
+
+/// Opens the node by its first line, and goes on from there: whether no line was out of its place.
+fn run_from<R: Read, W: Write>(
+    alloc: Global,
+    node: &Node,
+    world: &NodeSet,
+    line: &Line,
+    reader: &mut BufReader<R, Global>,
+    writer: &mut W,
+) -> Result<bool, StreamFault>
+    requires known { set_of world.now node.now ≡ true }
+    requires first { All IsFirst world.now }
+    ensures { (bytes : List ℕ) → IsKept bytes line.now → MatchResult result
+        (RunsFrom node.now world.now bytes (reader_remaining R.remaining reader.old) (reader_remaining R.remaining reader.new)
+        (W.contents writer.old) (W.contents writer.new))
+        (λ fault. StopsFrom node.now world.now bytes (reader_remaining R.remaining reader.old) (reader_remaining R.remaining reader.new)
+        (W.contents writer.old) (W.contents writer.new)) }
+{
+    let (mut port, standing) = open_by(alloc, node, world, line, writer)?;
+    run_on(alloc, &mut port, standing, reader, writer)
+}
+
+/// Runs this node of a world of first nodes by the lines of a reader, until they end or the node has left, and writes what comes of
+/// each: whether each line of a link was the next of it, and each step had a stamp. A line that is refused changes nothing. The first
+/// line may say that the node founds its cluster; else it is lone.
+///
+/// What was written is handed on before the reader waits for more, and in the end. Where lines can't be read or written, or memory is
+/// refused, a part is written of what those print that were done. The contract can't say when a reader, a writer or an allocator fails.
+pub fn run_node<R: Read, W: Write>(
+    alloc: Global,
+    node: &Node,
+    world: &NodeSet,
+    reader: &mut BufReader<R, Global>,
+    writer: &mut W,
+) -> Result<bool, StreamFault>
+    requires known { set_of world.now node.now ≡ true }
+    requires first { All IsFirst world.now }
+    ensures { MatchResult result
+        (NodeRan node.now world.now (reader_remaining R.remaining reader.old) (reader_remaining R.remaining reader.new)
+        (W.contents writer.old) (W.contents writer.new))
+        (NodeStopped node.now world.now (reader_remaining R.remaining reader.old) (reader_remaining R.remaining reader.new)
+        (W.contents writer.old) (W.contents writer.new)) }
+{
+    // The set shows that its nodes rise.
+    let _count = world.len();
+    let Some(first) = next_line(Vec::new(alloc), reader, writer)? else {
+        return Ok(true);
+    };
+    run_from(alloc, node, world, &first, reader, writer)
+}
