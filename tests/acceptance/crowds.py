@@ -24,6 +24,8 @@ DESCRIPTORS = 2 * MOST + 200
 ROUNDS = 3
 # How many seconds one half of a crowd comes before the other.
 HEAD_START = 3
+# For how many seconds it is looked whether a second one is told that it has a lock which another has.
+WATCH = 0.02
 
 
 def attached(served, many, nodes="a"):
@@ -107,6 +109,9 @@ def next_holder(waiters, seconds):
     if len(told) != 1:
         raise Failure(f"of all that wait for one lock {len(told)} are told at once that they have it")
     is_told(told[0], b"true", seconds)
+    others = [it for it in waiters if it is not told[0]]
+    if others and listen_to(others, lambda: any(it.heard for it in others), WATCH):
+        raise Failure("two have one lock")
     return told[0]
 
 
