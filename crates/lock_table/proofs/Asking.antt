@@ -1,8 +1,6 @@
 -- What a lock table says to one that asks, and what it has then.
 use Rattle.std.proofs.Common.{ℕ, Bool, true, false, ◌==◌, ◌≡◌, ◌<◌, ◌≤◌, ◌+◌, Option, Some, None, List, [], ◌∷◌, ◌++◌, get_or, refl, sym, ap, subst, ◌∙◌, inl, inr, arith}
 use Rattle.std.specs.Prelude.{◌&&◌, not, if◌then◌else◌, find, All, Contains, IsSome}
-use Rattle.std.specs.BTreeMap.{BTreeMap}
-use Rattle.std.specs.Map.{set_value}
 use Rattle.std.proofs.lemmas.Bool.{eqb-true, eq-eqb, lt-ltb}
 use Rattle.std.proofs.lemmas.List.Elements.{All-contains, All-from_recursion, All-head, All-tail, Contains-append_right}
 use Rattle.std.proofs.lemmas.Map.{none_passes_from_lookup}
@@ -13,26 +11,23 @@ use Rattle.protocol_model.specs.LockTable.{Grant, Locks, count, is_grant_of, is_
 use Rattle.protocol_model.proofs.Ids.{is_resource_swap}
 use Rattle.term.specs.declared.lock_id.LockId.{LockId}
 use Rattle.lock_table.specs.Filed.{Entry, IsFiled, first_grant, grant_of, held_at, is_key, listed}
+use Rattle.lock_table.specs.Grants.{HasUnder, IsFreeFor, IsOpenTo, Recounts}
 use Rattle.lock_table.specs.Ids.{id_of, requester_of}
-use Rattle.lock_table.specs.Sharers.{IsOpen, IsShared, IsUnder, Shared}
 use Rattle.lock_table.specs.Sound.{IsSound}
 use Rattle.lock_table.specs.Verdicts.{verdict_of, asked, IsFirstGrant}
 use Rattle.lock_table.specs.declared.grant.Key.{Key}
 use Rattle.lock_table.specs.declared.grant.Held.{Held}
-use Rattle.lock_table.specs.declared.grant.Place.{Place}
-use Rattle.lock_table.specs.Index.{IsIndexed, is_under}
+use Rattle.lock_table.specs.Index.{is_under}
 use Rattle.lock_table.specs.declared.verdict.Verdict.TheVariants.{Refuse}
 use Rattle.lock_table.proofs.Facts.{both}
 use Rattle.lock_table.proofs.Filing.{key_of, found_under, is_in_the_way-entry, never-absent, counted-held}
 use Rattle.lock_table.proofs.Holders.{one_requester}
 use Rattle.lock_table.proofs.Ids.{is_resource-id_of, requester_of-id_of}
-use Rattle.lock_table.proofs.Index.{Sets}
 use Rattle.lock_table.proofs.Keys.{exact}
 use Rattle.lock_table.proofs.Listed.{All-listed, listed-all}
 use Rattle.lock_table.proofs.Places.{All-find_none, count-absent, grant-absent}
 use Rattle.lock_table.proofs.Removal.{is_under-entry}
-use Rattle.lock_table.proofs.Sharing.{IsOpenTo, open-filed, under-filed}
-use Rattle.lock_table.proofs.Steps.{count_range, grant-more, kept-written, written-same}
+use Rattle.lock_table.proofs.Steps.{count_range, filed-written, grant-more}
 
 find-none : {X : Type 0} (p : X → Bool) (xs : List X) → All (λ x. p x ≡ false) xs → find p xs ≡ None
 find-none p [] h = refl
@@ -81,8 +76,7 @@ refused_under id p t g s at way = go (find (is_in_the_way id) t) refl
         (rw e (ap Refuse same), rw e refl)
 
 -- What is filed, and one that asks
-module _ (n : ℕ) (m : List Entry) (filed : IsFiled n m) (shared : Shared) (sh : IsShared m shared) (lock : LockId)
-    (p : Process) where
+module _ (n : ℕ) (m : List Entry) (filed : IsFiled n m) (lock : LockId) (p : Process) where
   abbrev Table : Locks
   Table = listed n m
 
@@ -91,10 +85,10 @@ module _ (n : ℕ) (m : List Entry) (filed : IsFiled n m) (shared : Shared) (sh 
       All-contains (λ (x : Entry). Contains Table (grant_of x)) m e (listed-all n m filed.below) at
 
   -- another requester has the resource
-  pub refused_other : (r : Text) → IsUnder lock.resource r shared × ((r == lock.requester) ≡ false)
+  pub refused_other : (r : Text) → HasUnder lock.resource m r × ((r == lock.requester) ≡ false)
       → (Refuse r ≡ verdict_of (refused_for (id_of lock) p Table)) × (Table ≡ asked (id_of lock) p Table)
   refused_other r found =
-      let h = under-filed m shared sh lock.resource r filed.once found.0 in
+      let h = found.0 in
       let e = h.0 in
       let way : is_in_the_way (id_of lock) (grant_of e) ≡ true = is_in_the_way-entry lock e
       ∙ rw (eq-eqb e.0.resource lock.resource h.2, h.3, found.1) refl in
@@ -105,9 +99,7 @@ module _ (n : ℕ) (m : List Entry) (filed : IsFiled n m) (shared : Shared) (sh 
       )
 
   -- none has
-  no_other : IsOpenTo lock.resource m lock.requester
-      → All (λ (e : Entry). ((e.0.resource == lock.resource)
-      && not (e.1.requester == lock.requester)) ≡ false) m
+  no_other : IsOpenTo lock.resource m lock.requester → IsFreeFor lock.resource lock.requester m
   no_other (inl none) i d l = rw (none i d l) refl
   no_other (inr h) i d l = go (e.0.resource == lock.resource) refl
     where
@@ -126,10 +118,9 @@ module _ (n : ℕ) (m : List Entry) (filed : IsFiled n m) (shared : Shared) (sh 
           ∙ requester_of-id_of (record { resource = h.0.0.resource; requester = h.0.1.requester }) ∙ h.3 in
           rw (eq-eqb e.1.requester lock.requester own) refl
 
-  module _ (may : IsOpen lock.resource lock.requester shared) (k : Key) (under : k ≡ key_of lock p) where
-    none_other : All (λ (e : Entry). ((e.0.resource == lock.resource)
-        && not (e.1.requester == lock.requester)) ≡ false) m
-    none_other = no_other (open-filed m shared sh lock.resource lock.requester filed.once may)
+  module _ (may : IsOpenTo lock.resource m lock.requester) (k : Key) (under : k ≡ key_of lock p) where
+    none_other : IsFreeFor lock.resource lock.requester m
+    none_other = no_other may
 
     clear : find (is_in_the_way (id_of lock)) Table ≡ None
     clear = find-none (is_in_the_way (id_of lock)) Table
@@ -165,27 +156,20 @@ module _ (n : ℕ) (m : List Entry) (filed : IsFiled n m) (shared : Shared) (sh 
       pub verdict-full : v.count ≡ last_count → Refuse lock.requester ≡ verdict_of (refused_for (id_of lock) p Table)
       verdict-full full = rw (clear, held ∙ full) (ap Refuse (sym (requester_of-id_of lock)))
 
-      pub asked-full : v.count ≡ last_count → (es : List Entry) → es ≡ set_value (is_key k) m v
-          → listed n es ≡ asked (id_of lock) p Table
-      asked-full full es e =
-          ap (listed n) (written-same n m filed lock p k under v found es e) ∙ rw (clear, held ∙ full) refl
+      pub asked-full : v.count ≡ last_count → Table ≡ asked (id_of lock) p Table
+      asked-full full = rw (clear, held ∙ full) refl
 
       pub free-held : v.count < last_count → refused_for (id_of lock) p Table ≡ None
       free-held room = free (omega (arith, room, held))
 
-      pub kept-more : (x : BTreeMap Place Text) → IsIndexed m x → v.count < last_count → (es : List Entry)
-          → es ≡ set_value (is_key k) m (record v { count = v.count + 1 })
-          → (IsSome (held_at m k) → Sets k (Some (record v { count = v.count + 1 })) m es)
-          → IsFiled n es × IsIndexed es x × IsShared es shared
-      kept-more x ix room es e sets =
-          kept-written n m filed lock p k under v found own x shared ix sh (v.count + 1) es (omega arith)
-          (omega (arith, room)) e sets
+      pub filed-more : v.count < last_count → (es : List Entry) → Recounts k (v.count + 1) m es → IsFiled n es
+      filed-more room es recounts =
+          filed-written n m filed lock p k under v found own (v.count + 1) es (omega arith) (omega (arith, room)) recounts
 
-      pub asked-more : v.count < last_count → (es : List Entry)
-          → es ≡ set_value (is_key k) m (record v { count = v.count + 1 })
+      pub asked-more : v.count < last_count → (es : List Entry) → Recounts k (v.count + 1) m es
           → listed n es ≡ asked (id_of lock) p Table
-      asked-more room es e =
-          grant-more n m filed lock p k under v found own es e ∙ rw (free-held room) refl
+      asked-more room es recounts =
+          grant-more n m filed lock p k under v found own es recounts ∙ rw (free-held room) refl
 
     module _ (absent : None ≡ held_at m k) where
       none : All (λ g. is_grant_of (id_of lock) p g ≡ false) Table

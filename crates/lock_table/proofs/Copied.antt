@@ -1,11 +1,13 @@
--- A table whose entries were copied.
-use Rattle.std.proofs.Common.{ℕ, ◌≡◌, List, sym, ap, subst, ◌∙◌}
+-- Grants whose entries were copied.
+use Rattle.std.proofs.Common.{◌≡◌, List, sym, ap, subst, ◌∙◌}
 use Rattle.std.specs.BTreeMap.{BTreeMap, is_at}
-use Rattle.std.specs.Map.{lookup}
+use Rattle.std.specs.List.{IsDistinct}
+use Rattle.std.specs.Map.{keys_of, lookup}
 use Rattle.registry_model.specs.Process.{Text}
 use Rattle.lock_table.specs.declared.grant.Place.{Place}
-use Rattle.lock_table.specs.Filed.{Entry, IsFiled}
+use Rattle.lock_table.specs.Filed.{Entry, is_key}
 use Rattle.lock_table.specs.Index.{IsIndexed, place_at, place_cmp}
+use Rattle.lock_table.specs.Kept.{IsKept}
 use Rattle.lock_table.specs.Sharers.{IsShared, Shared}
 
 -- the entries es, where they stand and who shares them, and their copies
@@ -17,10 +19,9 @@ module _ (es fs : List Entry) (m n : BTreeMap Place Text) (s t : Shared) (filed 
     filed = λ q r found. i.filed q r (ap (lookup (is_at (place_cmp q))) (sym placed) ∙ found);
   }
 
-  pub copied_kept : (next : ℕ) → IsFiled next es × IsIndexed es m × IsShared es s
-      → IsFiled next fs × IsIndexed fs n × IsShared fs t
-  copied_kept next kept = (
-    subst (IsFiled next) (sym filed) kept.0,
-    subst (λ (gs : List Entry). IsIndexed gs n) (sym filed) (indexed kept.1),
-    subst (λ (gs : List Entry). IsShared gs t) (sym filed) (subst (IsShared es) (sym shared) kept.2),
-  )
+  pub copied_kept : IsKept es m s → IsKept fs n t
+  copied_kept kept = record {
+    once = subst (λ (gs : List Entry). IsDistinct is_key (keys_of gs)) (sym filed) kept.once;
+    placed = subst (λ (gs : List Entry). IsIndexed gs n) (sym filed) (indexed kept.placed);
+    counted = subst (λ (gs : List Entry). IsShared gs t) (sym filed) (subst (IsShared es) (sym shared) kept.counted);
+  }

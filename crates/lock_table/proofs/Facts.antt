@@ -38,3 +38,7 @@ err_from (Err f) e P h = h
 pub ok_from : {X E : Type 0} (r : Result X E) → is_err r ≡ false → (P : Type 0) → OnOk r P → P
 ok_from (Ok x) e P h = h
 ok_from (Err f) e P h = cc
+
+pub on_none : {X P Q : Type 0} (r : Option X) → IfNone r P → (P → Q) → IfNone r Q
+on_none None h f = f h
+on_none (Some x) h f = tt

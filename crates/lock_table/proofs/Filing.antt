@@ -1,13 +1,13 @@
 -- What is filed under a key tells of the list of the grants, and what a change there makes of the list.
-use Rattle.std.proofs.Common.{ℕ, Bool, true, false, ◌==◌, ◌≡◌, ◌<◌, ◌≤◌, Option, Some, None, List, [], ◌∷◌, get_or, refl, sym, ap, ◌∙◌, subst}
+use Rattle.std.proofs.Common.{ℕ, Bool, true, false, ◌==◌, ◌≡◌, ◌<◌, ◌≤◌, Option, Some, None, List, [], ◌∷◌, get_or, refl, sym, ap, ◌∙◌, subst, arith}
 use Rattle.std.specs.Prelude.{if◌then◌else◌, ◌&&◌, not, filter, map, All, Contains}
 use Rattle.std.specs.List.{IsDistinct}
 use Rattle.std.specs.Map.{keys_of, set_value}
 use Rattle.std.proofs.lemmas.Bool.{eq-eqb}
-use Rattle.std.proofs.lemmas.List.Elements.{All-contains, All-map, All-weaker}
+use Rattle.std.proofs.lemmas.List.Elements.{All-contains, All-map, All-nil, All-weaker}
 use Rattle.std.proofs.lemmas.Map.{NonePasses, keys-set_value}
 use Rattle.std.proofs.lemmas.Map.Entries.{none_past_head}
-use Rattle.std.proofs.lemmas.Map.Keys.{IsDistinct-tail}
+use Rattle.std.proofs.lemmas.Map.Keys.{IsDistinct-from_apart, IsDistinct-tail}
 use Rattle.std.proofs.lemmas.Map.Views.{Contains-from_lookup}
 use Rattle.registry_model.specs.Process.{Process, is_process}
 use Rattle.protocol_model.specs.LockTable.{Grant, Locks, count, is_grant_of, is_in_the_way, last_count}
@@ -22,6 +22,19 @@ use Rattle.lock_table.proofs.Holders.{counted}
 use Rattle.lock_table.proofs.Ids.{is_id-id_of, is_resource-id_of}
 use Rattle.lock_table.proofs.Keys.{All-held, exact, key_laws}
 use Rattle.lock_table.proofs.Listed.{All-listed, listed-all, listed-map, listed-filter}
+
+-- nothing is filed
+pub filed-none : IsFiled 0 []
+filed-none = record {
+  once = IsDistinct-from_apart is_key [] (λ i j d l w. absurd (omega (arith, w)));
+  numbered_once = IsDistinct-from_apart (λ a b. a == b) [] (λ i j d l w. absurd (omega (arith, w)));
+  below = All-nil (λ (e : Entry). e.1.number < 0);
+  sound = record {
+    one_requester = λ i j d l w. absurd (omega (arith, w));
+    listed_once = λ i j d l w. absurd (omega (arith, w));
+    counted = All-nil (λ (g : Grant). (1 ≤ g.count) × (g.count ≤ last_count));
+  };
+}
 
 -- A value is set under a key
 module _ (q : Key) where

@@ -1,23 +1,22 @@
 -- The first grant from a place on, and the grants of a holder or of a node.
 use Rattle.std.proofs.Common.{ℕ, Bool, true, false, ◌==◌, ◌≡◌, ◌<◌, ◌≤◌, List, Option, Some, None, refl, sym, ap, ◌∙◌, subst, inl, inr, arith, nat_cmp, Ordering}
-use Rattle.std.specs.Prelude.{All, Contains, IsSome}
+use Rattle.std.specs.Prelude.{All, IsSome}
 use Rattle.std.specs.BTreeMap.{BTreeMap, get}
+use Rattle.std.specs.List.{IsDistinct}
+use Rattle.std.specs.Map.{keys_of}
 use Rattle.std.specs.Ordering.{is_gt, ordering_then}
 use Rattle.std.specs.declared.cmp.Ordering.TheVariants.{Less, Equal, Greater}
 use Rattle.std.proofs.lemmas.Bool.{cases_order, eqb-true, eq-eqb, lt-ltb, le-ltb}
 use Rattle.std.proofs.lemmas.Cmp.{ranked}
-use Rattle.std.proofs.lemmas.List.Elements.{All-contains, All-weaker}
-use Rattle.std.proofs.lemmas.Map.Views.{Contains-from_lookup}
+use Rattle.std.proofs.lemmas.List.Elements.{All-weaker}
 use Rattle.registry_model.specs.Process.{Process, Text, is_process}
-use Rattle.protocol_model.specs.LockTable.{Grant, Locks}
 use Rattle.lock_table.specs.declared.grant.Key.{Key}
 use Rattle.lock_table.specs.declared.grant.Place.{Place}
-use Rattle.lock_table.specs.Filed.{Entry, IsFiled, grant_of, held_at, listed}
-use Rattle.lock_table.specs.Index.{IsFirstFrom, IsFrom, IsIndexed, IsListedUnder, IsNoneFrom, place_at, place_cmp}
+use Rattle.lock_table.specs.Filed.{Entry, held_at, is_key}
+use Rattle.lock_table.specs.Grants.{IsHeld}
+use Rattle.lock_table.specs.Index.{IsFirstFrom, IsFrom, IsIndexed, IsNoneFrom, place_at, place_cmp}
 use Rattle.lock_table.proofs.Changes.{same_process}
-use Rattle.lock_table.proofs.Keys.{All-held, exact, is_key_self}
-use Rattle.lock_table.proofs.Listed.{All-listed, listed-all}
-use Rattle.lock_table.proofs.Removal.{is_under-entry}
+use Rattle.lock_table.proofs.Keys.{All-held}
 
 -- a place on a later node, or on the same and then of a later serial
 from_node : (a b : Place) → IsFrom a b → a.holder.node ≤ b.holder.node
@@ -77,37 +76,27 @@ begins h q node serial =
     ]
 
 -- What is filed, and where it stands
-module _ (n : ℕ) (m : List Entry) (x : BTreeMap Place Text)
-    (good : IsFiled n m × IsIndexed m x) where
-  abbrev Table : Locks
-  Table = listed n m
-
-  -- what stands somewhere is listed
-  pub listed_under : (a : Place) (k : Key) → IsFirstFrom x a k → IsListedUnder k Table
-  listed_under a k first =
-      let h = good.1.filed (place_at k.holder first.0) k.resource first.1 in (
-        grant_of (k, h.0),
-        All-contains (λ (y : Entry). Contains Table (grant_of y)) m (k, h.0)
-            (listed-all n m good.0.below) (Contains-from_lookup exact k h.0 m h.1),
-        is_under-entry k (k, h.0) ∙ is_key_self k,
-      )
+module _ (m : List Entry) (x : BTreeMap Place Text) (once : IsDistinct is_key (keys_of m)) (placed : IsIndexed m x) where
+  -- what stands somewhere is filed
+  pub held_from : (a : Place) (k : Key) → IsFirstFrom x a k → IsHeld k m
+  held_from a k first =
+      let h = placed.filed (place_at k.holder first.0) k.resource first.1 in (h.0, h.1)
 
   -- where nothing stands of some holders, they have no grants
   module _ (test : Process → Bool) where
     abbrev NoneHolds : Type 0
-    NoneHolds = All (λ (g : Grant). test g.holder ≡ false) Table
+    NoneHolds = All (λ (e : Entry). test e.0.holder ≡ false) m
 
     unheld : ((q : Place) → test q.holder ≡ true → get place_cmp x q ≡ None) → NoneHolds
     unheld none =
-        All-listed (λ (g : Grant). test g.holder ≡ false) n m
-        (All-weaker (λ (e : Entry). held_at m e.0 ≡ Some e.1) (λ (e : Entry). test e.0.holder ≡ false)
-        one m (All-held m good.0.once))
+        All-weaker (λ (e : Entry). held_at m e.0 ≡ Some e.1) (λ (e : Entry). test e.0.holder ≡ false)
+        one m (All-held m once)
       where
         one : (e : Entry) → held_at m e.0 ≡ Some e.1 → test e.0.holder ≡ false
         one e f = go (test e.0.holder) refl
           where
             go : (b : Bool) → test e.0.holder ≡ b → test e.0.holder ≡ false
-            go true i = absurd (cc (none (place_at e.0.holder e.1.number) i, good.1.placed e.0 e.1 f))
+            go true i = absurd (cc (none (place_at e.0.holder e.1.number) i, placed.placed e.0 e.1 f))
             go false i = i
 
     module _ (a : Place) (from : (q : Place) → test q.holder ≡ true → IsFrom a q) where
@@ -151,11 +140,11 @@ module _ (n : ℕ) (m : List Entry) (x : BTreeMap Place Text)
         ) in
         rw (eq-eqb p.holder.node h.node node, eq-eqb p.holder.serial h.serial serial) refl
 
-    pub none_of : IsNoneFrom x (place_at h 0) → All (λ (g : Grant). is_process g.holder h ≡ false) Table
+    pub none_of : IsNoneFrom x (place_at h 0) → All (λ (e : Entry). is_process e.0.holder h ≡ false) m
     none_of = unheld_none (λ p. is_process p h) (place_at h 0) own_from
 
     pub none_of-first : (k : Key) → IsFirstFrom x (place_at h 0) k → is_process k.holder h ≡ false
-        → All (λ (g : Grant). is_process g.holder h ≡ false) Table
+        → All (λ (e : Entry). is_process e.0.holder h ≡ false) m
     none_of-first = unheld_first (λ p. is_process p h) (place_at h 0) own_from own_between
 
   -- of one node
@@ -172,9 +161,9 @@ module _ (n : ℕ) (m : List Entry) (x : BTreeMap Place Text)
         eq-eqb p.holder.node d
         (omega (arith, from_node Start p f, from_node p q g, eqb-true q.holder.node d i))
 
-    pub none_on : IsNoneFrom x Start → All (λ (g : Grant). (g.holder.node == d) ≡ false) Table
+    pub none_on : IsNoneFrom x Start → All (λ (e : Entry). (e.0.holder.node == d) ≡ false) m
     none_on = unheld_none (λ p. p.node == d) Start on_from
 
     pub none_on-first : (k : Key) → IsFirstFrom x Start k → (k.holder.node == d) ≡ false
-        → All (λ (g : Grant). (g.holder.node == d) ≡ false) Table
+        → All (λ (e : Entry). (e.0.holder.node == d) ≡ false) m
     none_on-first = unheld_first (λ p. p.node == d) Start on_from on_between

@@ -1,14 +1,15 @@
--- A first grant is filed, placed and counted.
-use Rattle.std.proofs.Common.{ℕ, suc, Bool, true, false, ◌==◌, ◌≡◌, ◌<◌, ◌≤◌, ◌+◌, Option, Some, None, List, [], ◌∷◌, ◌++◌, get_or, refl, sym, ap, subst, ◌∙◌, arith}
+-- A first grant is filed and listed.
+use Rattle.std.proofs.Common.{ℕ, suc, Bool, true, false, ◌==◌, ◌≡◌, ◌<◌, ◌≤◌, ◌+◌, Option, Some, None, List, [], ◌∷◌, ◌++◌, length, get_or, refl, sym, ap, subst, ◌∙◌, arith}
 use Rattle.std.specs.Prelude.{◌&&◌, ◌||◌, not, All, Contains}
-use Rattle.std.specs.BTreeMap.{BTreeMap}
 use Rattle.std.specs.List.{IsDistinct, list_any}
 use Rattle.std.specs.Map.{keys_of}
 use Rattle.std.proofs.lemmas.Bool.{eqb-true}
 use Rattle.std.proofs.lemmas.Cmp.{nat_eq_equiv}
 use Rattle.std.proofs.lemmas.List.{map-append, length-map}
 use Rattle.std.proofs.lemmas.List.Elements.{All-contains, All-head, All-push, All-tail, All-weaker}
-use Rattle.std.proofs.lemmas.Map.Keys.{IsDistinct-push}
+use Rattle.std.proofs.lemmas.List.Sorted.{All-permutation, IsPermutation-map}
+use Rattle.std.proofs.lemmas.Map.{NonePasses, none_passes_from_lookup}
+use Rattle.std.proofs.lemmas.Map.Keys.{IsDistinct-push, IsDistinct-IsPermutation}
 use Rattle.std.proofs.lemmas.Map.Steps.{length-le_from_distinct_below}
 use Rattle.std.proofs.lemmas.Map.Views.{Contains-from_lookup}
 use Rattle.registry_model.specs.Process.{Text}
@@ -16,17 +17,14 @@ use Rattle.protocol_model.specs.LockTable.{Grant, is_in_the_way}
 use Rattle.term.specs.declared.lock_id.LockId.{LockId}
 use Rattle.lock_table.specs.declared.grant.Key.{Key}
 use Rattle.lock_table.specs.declared.grant.Held.{Held}
-use Rattle.lock_table.specs.declared.grant.Place.{Place}
 use Rattle.lock_table.specs.Filed.{Entry, IsFiled, first_grant, grant_of, held_at, is_key, listed, numbers_of}
-use Rattle.lock_table.specs.Index.{IsIndexed, is_under, place_at}
-use Rattle.lock_table.specs.Sharers.{IsShared, Joins, Shared, grants_in, sharers_of}
+use Rattle.lock_table.specs.Grants.{Gains, IsFreeFor}
+use Rattle.lock_table.specs.Index.{is_under}
 use Rattle.lock_table.specs.Sound.{IsSound}
 use Rattle.lock_table.proofs.Filing.{is_in_the_way-entry, never-absent}
-use Rattle.lock_table.proofs.Index.{Sets, SetsAt, indexed-first, number_below}
-use Rattle.lock_table.proofs.Keys.{exact, is_key_self}
-use Rattle.lock_table.proofs.Listed.{listed-all, listed-push}
+use Rattle.lock_table.proofs.Keys.{exact, is_key_self, key_laws}
+use Rattle.lock_table.proofs.Listed.{listed-all, listed-permuted, listed-push, once-permuted}
 use Rattle.lock_table.proofs.Removal.{is_under-entry}
-use Rattle.lock_table.proofs.Sharing.{countable, shared-first}
 use Rattle.lock_table.proofs.Soundness.{sound-push}
 
 -- a number that is there is below n
@@ -43,20 +41,18 @@ below_any n (e ∷ es) below j h =
         (All-head (λ (x : Entry). x.1.number < n) e es below)
     go false i f rest = rest f
 
-module _ (n : ℕ) (m : List Entry) (filed : IsFiled n m) (shared : Shared) (sh : IsShared m shared) where
-  -- the number of grants on a resource is less than the next number
-  pub countable-next : (r : Text) → grants_in (sharers_of r shared) ≤ n
-  countable-next r =
-      let few = countable m shared sh r in
+-- where nothing passes, none is found
+none_any : (k : Key) (es : List Entry) → NonePasses (is_key k) es → list_any (is_key k) (keys_of es) ≡ false
+none_any k [] h = refl
+none_any k (e ∷ es) h = rw (h.0) (none_any k es h.1)
+
+module _ (n : ℕ) (m : List Entry) (filed : IsFiled n m) where
+  -- there are no more grants than numbers below the next
+  pub few : length m ≤ n
+  few =
       let numbers = length-le_from_distinct_below (numbers_of m) n filed.numbered_once
       (below_any n m filed.below) in
-      omega (
-        arith,
-        few,
-        numbers,
-        length-map m (λ (e : Entry). e.1.number),
-        length-map m (λ (e : Entry). e.0),
-      )
+      omega (arith, numbers, length-map m (λ (e : Entry). e.1.number))
 
   module _ (k : Key) (q : Text) (absent : All (λ (g : Grant). is_under k g ≡ false) (listed n m))
       (free : All (λ (g : Grant). is_in_the_way (first_grant k q).id g ≡ false) (listed n m)) where
@@ -65,6 +61,9 @@ module _ (n : ℕ) (m : List Entry) (filed : IsFiled n m) (shared : Shared) (sh 
 
     abbrev Lock : LockId
     Lock = record { resource = k.resource; requester = q }
+
+    abbrev More : List Entry
+    More = m ++ (k, First) ∷ []
 
     pub held-none : held_at m k ≡ None
     held-none = go (held_at m k) refl
@@ -78,16 +77,16 @@ module _ (n : ℕ) (m : List Entry) (filed : IsFiled n m) (shared : Shared) (sh 
             let no = All-contains (λ (g : Grant). is_under k g ≡ false) (listed n m) (grant_of (k, v)) absent at in
             absurd (cc (no, is_under-entry k (k, v), is_key_self k))
 
-    entries_free : All (λ (x : Entry). ((x.0.resource == k.resource) && not (x.1.requester == q)) ≡ false) m
+    pub entries_free : IsFreeFor k.resource q m
     entries_free i d l =
         sym (is_in_the_way-entry Lock (get_or m i d))
         ∙ All-contains (λ (g : Grant). is_in_the_way (first_grant k q).id g ≡ false) (listed n m)
         (grant_of (get_or m i d)) free (listed-all n m filed.below i d l)
 
-    pub listed-first : listed (n + 1) (m ++ (k, First) ∷ []) ≡ listed n m ++ first_grant k q ∷ []
+    listed-first : listed (n + 1) More ≡ listed n m ++ first_grant k q ∷ []
     listed-first =
         let next : n + 1 ≡ suc n = omega arith in
-        ap (λ (j : ℕ). listed j (m ++ (k, First) ∷ [])) next ∙ listed-push k First m filed.below
+        ap (λ (j : ℕ). listed j More) next ∙ listed-push k First m filed.below
 
     number_new : list_any (λ b. n == b) (numbers_of m) ≡ false
     number_new = go (list_any (λ b. n == b) (numbers_of m)) refl
@@ -96,9 +95,11 @@ module _ (n : ℕ) (m : List Entry) (filed : IsFiled n m) (shared : Shared) (sh 
         go true i = let l = below_any n m filed.below n i in absurd (omega (arith, l))
         go false i = i
 
-    filed-first : IsDistinct is_key (keys_of (m ++ (k, First) ∷ [])) → IsFiled (n + 1) (m ++ (k, First) ∷ [])
-    filed-first once = record {
-      once = once;
+    filed-first : IsFiled (n + 1) More
+    filed-first = record {
+      once = subst (IsDistinct is_key) (sym (map-append (λ (e : Entry). e.0) m ((k, First) ∷ [])))
+          (IsDistinct-push key_laws (keys_of m) k filed.once
+          (none_any k m (none_passes_from_lookup (is_key k) m held-none)));
       numbered_once = subst (IsDistinct (λ a b. a == b))
           (sym (map-append (λ (e : Entry). e.1.number) m ((k, First) ∷ [])))
           (IsDistinct-push nat_eq_equiv (numbers_of m) n filed.numbered_once number_new);
@@ -110,21 +111,16 @@ module _ (n : ℕ) (m : List Entry) (filed : IsFiled n m) (shared : Shared) (sh 
           (never-absent n m filed Lock k.holder held-none));
     }
 
-    pub kept-first : (x y : BTreeMap Place Text) (after : Shared) → IsIndexed m x
-        → (a : Place) → a ≡ place_at k.holder n → (on : Text) → on ≡ k.resource → SetsAt a (Some on) x y
-        → Joins k.resource q shared after
-        → (next : ℕ) → next ≡ n + 1 → (new : List Entry) → new ≡ m ++ (k, First) ∷ []
-        → IsDistinct is_key (keys_of new) → Sets k (Some First) m new
-        → IsFiled next new × IsIndexed new y × IsShared new after
-    kept-first x y after ix a at_a on copied fills joins next risen new pushed once sets =
-        subst (λ (j : ℕ). IsFiled j new × IsIndexed new y × IsShared new after) (sym risen)
-        (subst (λ (l : List Entry). IsFiled (n + 1) l × IsIndexed l y × IsShared l after) (sym pushed) (
-          filed-first (subst (λ (l : List Entry). IsDistinct is_key (keys_of l)) pushed once),
-          indexed-first m (m ++ (k, First) ∷ []) x y ix k First held-none (number_below n m filed.below) set
-              (subst (λ (b : Place). SetsAt b (Some k.resource) x y) at_a
-              (subst (λ (r : Text). SetsAt a (Some r) x y) copied fills)),
-          shared-first m shared sh k First after entries_free filed.once joins set,
-        ))
-      where
-        set : Sets k (Some First) m (m ++ (k, First) ∷ [])
-        set = subst (λ (l : List Entry). Sets k (Some First) m l) pushed sets
+    -- in whatever order
+    module _ (es : List Entry) (gains : Gains (k, First) m es) where
+      pub listed-gained : listed (n + 1) es ≡ listed n m ++ first_grant k q ∷ []
+      listed-gained = sym (listed-permuted (n + 1) More es gains filed-first.numbered_once) ∙ listed-first
+
+      pub filed-gained : IsFiled (n + 1) es
+      filed-gained = record {
+        once = IsDistinct-IsPermutation is_key key_laws.symm (keys_of More) (keys_of es)
+            (IsPermutation-map (λ (e : Entry). e.0) More es gains) filed-first.once;
+        numbered_once = once-permuted More es gains filed-first.numbered_once;
+        below = All-permutation (λ (x : Entry). x.1.number < n + 1) More es gains filed-first.below;
+        sound = subst IsSound (listed-permuted (n + 1) More es gains filed-first.numbered_once) filed-first.sound;
+      }

@@ -1,4 +1,5 @@
 mod Asking
+mod Beside
 mod Changes
 mod Copied
 mod Counting
@@ -10,6 +11,7 @@ mod First
 mod Holders
 mod Ids
 mod Index
+mod Keeping
 mod Keys
 mod Listed
 mod Places

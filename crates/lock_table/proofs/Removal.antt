@@ -1,25 +1,27 @@
 -- What is filed under a key is taken away.
 use Rattle.std.proofs.Common.{ℕ, suc, Bool, true, false, ◌==◌, ◌≡◌, ◌<◌, ◌+◌, ◌-◌, Option, Some, None, List, [], ◌∷◌, length, get_or, position, refl, sym, ap, subst, ◌∙◌, is_some, true≢false, arith, IsPermutation}
-use Rattle.std.specs.Prelude.{if◌then◌else◌, not, filter, take, slice_set}
+use Rattle.std.specs.Prelude.{if◌then◌else◌, not, filter, take, slice_set, All, Contains}
 use Rattle.std.specs.List.{IsDistinct, position_or_len, swap_remove}
 use Rattle.std.specs.Map.{keys_of}
 use Rattle.std.specs.Option.{option_map_or}
 use Rattle.std.proofs.lemmas.List.{get_or_default}
-use Rattle.std.proofs.lemmas.List.Elements.{All-tail}
+use Rattle.std.proofs.lemmas.List.Elements.{All-contains, All-tail}
 use Rattle.std.proofs.lemmas.List.Sorted.{All-permutation, IsPermutation-map, IsPermutation-swap_remove}
 use Rattle.std.proofs.lemmas.Map.{NonePasses, none_passes_from_lookup}
 use Rattle.std.proofs.lemmas.Map.Entries.{none_past_head}
 use Rattle.std.proofs.lemmas.Map.Keys.{IsDistinct-tail, IsDistinct-IsPermutation}
+use Rattle.std.proofs.lemmas.Map.Views.{Contains-from_lookup}
 use Rattle.indexmap.specs.IndexMap.{swap_remove_entry}
 use Rattle.indexmap.proofs.MapLemmas.{Found-position, some_index}
 use Rattle.lock_table.specs.declared.grant.Key.{Key}
 use Rattle.lock_table.specs.declared.grant.Held.{Held}
 use Rattle.lock_table.specs.Filed.{Entry, IsFiled, grant_of, held_at, is_key, listed, numbers_of}
-use Rattle.lock_table.specs.Index.{is_under}
+use Rattle.lock_table.specs.Grants.{Gone, IsHeld, Loses}
+use Rattle.lock_table.specs.Index.{IsListedUnder, is_under}
 use Rattle.lock_table.specs.Sound.{IsSound}
 use Rattle.lock_table.proofs.Ids.{resource_of-id_of}
-use Rattle.lock_table.proofs.Keys.{key_laws}
-use Rattle.lock_table.proofs.Listed.{listed-filter, listed-permuted, once-permuted}
+use Rattle.lock_table.proofs.Keys.{exact, is_key_self, key_laws}
+use Rattle.lock_table.proofs.Listed.{listed-all, listed-filter, listed-permuted, once-permuted}
 use Rattle.lock_table.proofs.Soundness.{sound-filter}
 
 -- a grant is of a key where it is filed under it
@@ -44,16 +46,13 @@ module _ (k : Key) where
           let next : suc (position_or_len (is_key k) (keys_of es)) ≡ i = omega (arith, j) in
           subst (λ (h : ℕ). is_key k (get_or (e ∷ es) h d).0 ≡ true) next (rest (omega (arith, j, l)))
 
-  abbrev pub Gone : List Entry → List Entry → Type 0
-  Gone es fs = (x : Entry) × (is_key k x.0 ≡ true) × IsPermutation es (x ∷ fs)
-
   pub gone-swapped : (es : List Entry) (v : Held) → held_at es k ≡ Some v
-      → Gone es (swap_remove_entry (is_key k) es)
+      → Gone k es (swap_remove_entry (is_key k) es)
   gone-swapped [] v found = absurd (cc found)
   gone-swapped (e ∷ es) v found = go (position (is_key k) (keys_of (e ∷ es))) refl
     where
       go : (o : Option ℕ) → position (is_key k) (keys_of (e ∷ es)) ≡ o
-          → Gone (e ∷ es) (swap_remove_entry (is_key k) (e ∷ es))
+          → Gone k (e ∷ es) (swap_remove_entry (is_key k) (e ∷ es))
       go None at =
           absurd (true≢false (sym (ap is_some found) ∙ sym (some_index (is_key k) (e ∷ es)) ∙ ap is_some at))
       go (Some i) at =
@@ -82,7 +81,7 @@ module _ (k : Key) where
       listed-filter (λ e. not (is_key k e.0)) (λ g. not (is_under k g)) n es
       (λ i d l. ap not (sym (is_under-entry k (get_or es i d))))
 
-  module _ (n : ℕ) (es fs : List Entry) (filed : IsFiled n es) (gone : Gone es fs) where
+  module _ (n : ℕ) (es fs : List Entry) (filed : IsFiled n es) (gone : Gone k es fs) where
     once-moved : IsDistinct is_key (keys_of (gone.0 ∷ fs))
     once-moved =
         IsDistinct-IsPermutation is_key key_laws.symm (keys_of es) (keys_of (gone.0 ∷ fs))
@@ -111,3 +110,28 @@ module _ (k : Key) where
       → listed n es ≡ filter (λ g. not (is_under k g)) (listed n es)
   listed-kept_all n es absent =
       sym (ap (listed n) (filter-none es (none_passes_from_lookup (is_key k) es absent))) ∙ listed-kept n es
+
+  -- what losing the key's grant, or none, leaves
+  pub removed : (n : ℕ) (es fs : List Entry) → IsFiled n es → Loses k es fs
+      → IsFiled n fs × (listed n fs ≡ filter (λ g. not (is_under k g)) (listed n es))
+  removed n es fs filed loses = go (held_at es k) refl
+    where
+      go : (o : Option Held) → held_at es k ≡ o
+          → IsFiled n fs × (listed n fs ≡ filter (λ g. not (is_under k g)) (listed n es))
+      go None e =
+          let same = loses.0 e in (
+            subst (IsFiled n) (sym same) filed,
+            ap (listed n) same ∙ listed-kept_all n es e,
+          )
+      go (Some v) e =
+          let gone = loses.1 v e in (filed-removed n es fs filed gone, listed-removed n es fs filed gone)
+
+-- what is filed under a key is listed under it
+pub listed_under : (n : ℕ) (es : List Entry) → All (λ (e : Entry). e.1.number < n) es → (k : Key) → IsHeld k es
+    → IsListedUnder k (listed n es)
+listed_under n es below k h = (
+  grant_of (k, h.0),
+  All-contains (λ (y : Entry). Contains (listed n es) (grant_of y)) es (k, h.0)
+      (listed-all n es below) (Contains-from_lookup exact k h.0 es h.1),
+  is_under-entry k (k, h.0) ∙ is_key_self k,
+)

@@ -15,23 +15,10 @@ use Rattle.lock_table.specs.declared.grant.Key.{Key}
 use Rattle.lock_table.specs.declared.grant.Held.{Held}
 use Rattle.lock_table.specs.declared.sharers.Sharers.{Sharers}
 use Rattle.lock_table.specs.Filed.{Entry, held_at, is_key}
+use Rattle.lock_table.specs.Grants.{Gone, HasUnder, IsNoneOn, IsOpenTo}
 use Rattle.lock_table.specs.Sharers.{IsOpen, IsShared, IsUnder, Joins, Leaves, Shared, grants_in, grants_on, less, more, sharers_of}
 use Rattle.lock_table.proofs.Index.{Sets}
 use Rattle.lock_table.proofs.Keys.{exact, key_laws}
-use Rattle.lock_table.proofs.Removal.{Gone}
-
--- some grant on the resource is in the requester's name
-abbrev pub HasUnder : Text → List Entry → Text → Type 0
-HasUnder resource es requester =
-    (e : Entry) × Contains es e × (e.0.resource ≡ resource) × (e.1.requester ≡ requester)
-
--- no grant is on the resource
-abbrev pub IsNoneOn : Text → List Entry → Type 0
-IsNoneOn resource es = All (λ e. (e.0.resource == resource) ≡ false) es
-
--- no grant on the resource is in another requester's name than this one's
-abbrev pub IsOpenTo : Text → List Entry → Text → Type 0
-IsOpenTo resource es requester = IsNoneOn resource es ⊎ HasUnder resource es requester
 
 -- What the number of grants on a resource tells
 module _ (r : Text) where

@@ -1,5 +1,5 @@
 //! Grants, and where they are filed.
-ghost use Rattle.std.specs.Prelude.{◌≡◌};
+ghost use Rattle.std.specs.Prelude.{◌≡◌, ◌==◌, true, false, IfNone, IfSome};
 
 use term::{LockId, Pid, Requester, Resource};
 
@@ -19,6 +19,13 @@ pub(crate) struct Held {
     pub(crate) number: u64,
 }
 
+/// A grant, and what it would be filed under.
+#[derive(Debug, Drop)]
+pub(crate) struct KeptGrant {
+    pub(crate) key: Key,
+    pub(crate) held: Held,
+}
+
 /// Where a grant stands among its holder's. Holders of one node stand together, and the grants of one holder, as their
 /// numbers rise.
 #[derive(Clone, Debug, PartialEq, Eq, PartialOrd, Ord, Drop)]
@@ -35,6 +42,53 @@ impl Key {
         Key {
             resource: id.resource.copy(),
             holder: holder.copy(),
+        }
+    }
+
+    /// The same key.
+    pub(crate) fn copy(&self) -> Key
+        ensures { result ≡ self.now }
+    {
+        Key {
+            resource: self.resource.copy(),
+            holder: self.holder.copy(),
+        }
+    }
+}
+
+impl Held {
+    /// In whose name it is held, where that is another requester than this one.
+    pub(crate) fn other_requester(&self, requester: &Requester) -> Option<Requester>
+        ensures some { IfSome result (λ other. (other ≡ self.now.requester) × ((other == requester.now) ≡ false)) }
+        ensures none { IfNone result ((self.now.requester == requester.now) ≡ true) }
+    {
+        if self.requester == *requester {
+            None
+        } else {
+            Some(self.requester.copy())
+        }
+    }
+
+    /// The same.
+    pub(crate) fn copy(&self) -> Held
+        ensures { result ≡ self.now }
+    {
+        Held {
+            requester: self.requester.copy(),
+            count: self.count,
+            number: self.number,
+        }
+    }
+}
+
+impl KeptGrant {
+    /// The same grant.
+    pub(crate) fn copy(&self) -> KeptGrant
+        ensures { result ≡ self.now }
+    {
+        KeptGrant {
+            key: self.key.copy(),
+            held: self.held.copy(),
         }
     }
 }

@@ -2,7 +2,9 @@
 #![tactic(auto)]
 
 mod grant;
+mod grants;
 mod laws;
+mod others;
 mod sharers;
 mod table;
 mod verdict;

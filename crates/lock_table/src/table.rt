@@ -4,18 +4,16 @@ ghost use Rattle.registry_model.specs.Process.{is_process};
 ghost use Rattle.protocol_model.specs.LockTable.{count, refused_for, give_back, drop_holder, drop_node, is_in_the_way};
 ghost use Rattle.lock_table.specs.Ids.{id_of};
 ghost use Rattle.lock_table.specs.Filed.{first_grant};
-ghost use Rattle.lock_table.specs.Index.{IsFirstFrom, IsNoneFrom, IsListedUnder, is_under};
+ghost use Rattle.lock_table.specs.Index.{IsListedUnder, is_under};
 ghost use Rattle.lock_table.specs.Sound.{IsSound};
 ghost use Rattle.lock_table.specs.Verdicts.{verdict_of, asked, IsFirstGrant};
 
-use crate::grant::{Held, Key, Place};
-use crate::sharers::{Shared, join, leave, other_requester};
+use crate::grant::Key;
+use crate::grants::AllGrants;
 use crate::verdict::Verdict;
-use indexmap::IndexMap;
 use std::alloc::{AllocError, Global};
-use std::collections::BTreeMap;
 use std::marker::Model;
-use term::{LockId, Node, Pid, Requester, Resource};
+use term::{LockId, Node, Pid, Requester};
 
 /// Who has which locks at one node, and how often. Holders that ask in the name of one requester share a resource;
 /// another requester is kept from it until they have given back all that they had.
@@ -24,10 +22,7 @@ use term::{LockId, Node, Pid, Requester, Resource};
 /// holder that is dropped, or of a node.
 #[derive(Debug, Drop)]
 pub struct LockTable {
-    grants: IndexMap<Key, Held>,
-    shared: Shared,
-    /// The resource of each grant, where the grant stands among its holder's.
-    by_holder: BTreeMap<Place, Resource>,
+    grants: AllGrants,
     /// The number of the next first grant: the grants are listed as their numbers rise.
     next: u64,
 }
@@ -35,26 +30,12 @@ pub struct LockTable {
 impl Model for LockTable {
     ghost use Rattle.protocol_model.specs.LockTable.{Locks};
     ghost use Rattle.lock_table.specs.Filed.{listed, IsFiled};
-    ghost use Rattle.lock_table.specs.Index.{IsIndexed};
-    ghost use Rattle.lock_table.specs.Sharers.{IsShared};
 
     ghost Value = { Locks };
 
-    ghost view = { λ t. listed t.next t.grants.entries };
+    ghost view = { λ t. listed t.next t.grants };
 
-    ghost invariant = { λ t. IsFiled t.next t.grants.entries × IsIndexed t.grants.entries t.by_holder × IsShared t.grants.entries t.shared.entries };
-}
-
-/// The key of the first grant that stands at a place or behind it.
-fn first_from(by_holder: &BTreeMap<Place, Resource>, from: &Place) -> Option<Key>
-    ensures some { IfSome result (IsFirstFrom by_holder.now from.now) }
-    ensures none { IfNone result (IsNoneFrom by_holder.now from.now) }
-{
-    let (place, resource) = by_holder.range(from..).next()?;
-    Some(Key {
-        resource: resource.copy(),
-        holder: place.holder.copy(),
-    })
+    ghost invariant = { λ t. IsFiled t.next t.grants };
 }
 
 impl LockTable {
@@ -63,9 +44,7 @@ impl LockTable {
         ensures { result ≡ [] }
     {
         LockTable {
-            grants: IndexMap::new(alloc),
-            shared: IndexMap::new(alloc),
-            by_holder: BTreeMap::new(alloc),
+            grants: AllGrants::new(alloc),
             next: 0,
         }
     }
@@ -75,9 +54,7 @@ impl LockTable {
         ensures { IfOk result (λ copy. copy ≡ self.now) }
     {
         Ok(LockTable {
-            grants: self.grants.clone()?,
-            shared: self.shared.clone()?,
-            by_holder: self.by_holder.clone()?,
+            grants: self.grants.copy()?,
             next: self.next,
         })
     }
@@ -110,45 +87,34 @@ impl LockTable {
         ensures unchanged { OnErr result (self.new ≡ self.old) }
         ensures err { OnErr result (IsFirstGrant (id_of id) holder self.old) }
     {
-        if let Some(other) = other_requester(&self.shared, &id.resource, &id.requester) {
+        if let Some(other) = self.grants.other_requester(&id.resource, &id.requester) {
             return Ok(Verdict::Refuse(other));
         }
         let key = Key::of(&id, &holder);
-        match self.grants.get_mut(&key) {
+        match self.grants.get(&key) {
             Some(held) => {
-                if held.count == u32::MAX {
+                let count = held.count;
+                if count == u32::MAX {
                     return Ok(Verdict::Refuse(id.requester));
                 }
-                held.count += 1;
+                self.grants.set_count(&key, count + 1);
             }
             None => self.file(key, id.requester)?,
         }
         Ok(Verdict::Grant)
     }
 
-    /// Files the first grant of a key, whose resource no other requester has. What can be refused comes before what
-    /// can't, so a refusal changes nothing.
+    /// Files the first grant of a key, whose resource no other requester has. A refusal changes nothing.
     fn file(&mut self, key: Key, requester: Requester) -> Result<(), AllocError>
         requires absent { All (λ g. is_under key g ≡ false) self.old }
         requires free { All (λ g. is_in_the_way (first_grant key requester).id g ≡ false) self.old }
         ensures ok { OnOk result (self.new ≡ self.old ++ first_grant key requester ∷ []) }
         ensures err { OnErr result (self.new ≡ self.old) }
     {
-        let number = self.next;
-        let Some(next) = number.checked_add(1) else {
+        let Some(next) = self.next.checked_add(1) else {
             return Err(AllocError);
         };
-        self.grants.reserve(1)?;
-        self.shared.reserve(1)?;
-        let place = Place::of(&key.holder, number);
-        self.by_holder.insert(place, key.resource.copy())?;
-        join(&mut self.shared, &key.resource, &requester);
-        let held = Held {
-            requester,
-            count: 1,
-            number,
-        };
-        let _none = self.grants.insert(key, held).unwrap();
+        self.grants.file(key, requester, self.next)?;
         self.next = next;
         Ok(())
     }
@@ -158,15 +124,17 @@ impl LockTable {
         ensures { self.new ≡ give_back (id_of id.now) holder.now self.old }
     {
         let key = Key::of(id, holder);
-        if let Some(held) = self.grants.get_mut(&key) {
-            if held.requester != id.requester {
-                return;
-            }
-            if held.count > 1 {
-                held.count -= 1;
-            } else {
-                self.remove(&key);
-            }
+        let Some(held) = self.grants.get(&key) else {
+            return;
+        };
+        if held.requester != id.requester {
+            return;
+        }
+        let count = held.count;
+        if count > 1 {
+            self.grants.set_count(&key, count - 1);
+        } else {
+            self.remove(&key);
         }
     }
 
@@ -174,40 +142,23 @@ impl LockTable {
     fn remove(&mut self, key: &Key)
         ensures { self.new ≡ filter (λ g. not (is_under key.now g)) self.old }
     {
-        if let Some(held) = self.grants.swap_remove(key) {
-            self.by_holder.remove(&Place::of(&key.holder, held.number));
-            leave(&mut self.shared, &key.resource);
-        }
+        self.grants.remove(key);
     }
 
-    /// What a holder's first grant is filed under, if the holder has any.
+    /// What one of a holder's grants is filed under, if the holder has any.
     fn first_of(&self, holder: &Pid) -> Option<Key>
         ensures some { IfSome result (λ key. IsListedUnder key self.now × (key.holder ≡ holder.now)) }
         ensures none { IfNone result (All (λ g. is_process g.holder holder.now ≡ false) self.now) }
     {
-        let key = first_from(&self.by_holder, &Place::of(holder, 0))?;
-        if key.holder == *holder {
-            Some(key)
-        } else {
-            None
-        }
+        self.grants.first_of(holder)
     }
 
-    /// What the first grant of a node's first holder is filed under, if any of its processes has one.
+    /// What one of the grants of a node's processes is filed under, if any of them has one.
     fn first_on(&self, node: &Node) -> Option<Key>
         ensures some { IfSome result (λ key. IsListedUnder key self.now × (key.holder.node ≡ node.now)) }
         ensures none { IfNone result (All (λ g. (g.holder.node == node.now) ≡ false) self.now) }
     {
-        let first = Pid {
-            node: node.copy(),
-            serial: 0,
-        };
-        let key = first_from(&self.by_holder, &Place::of(&first, 0))?;
-        if key.holder.node == *node {
-            Some(key)
-        } else {
-            None
-        }
+        self.grants.first_on(node)
     }
 
     /// Takes all locks of a holder away.

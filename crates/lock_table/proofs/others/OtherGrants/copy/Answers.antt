@@ -1,8 +1,7 @@
-use Rattle.std.proofs.Common.{ap, ◌∙◌, rules}
+use Rattle.std.proofs.Common.{◌∙◌, rules}
 use Rattle.std.proofs.lemmas.Map.Entries.{entries_from_clone}
-use Rattle.lock_table.specs.Filed.{listed}
 use Rattle.lock_table.proofs.Copied.{copied_kept}
-use Rattle.lock_table.proofs.table.LockTable.copy.Goals as goal
+use Rattle.lock_table.proofs.others.OtherGrants.copy.Goals as goal
 
 pub invariant_of-result : goal.invariant_of-result
 invariant_of-result c =
@@ -14,11 +13,10 @@ invariant_of-result c =
     c.in_ok-clone-3.field-0.entries c.in_ok-clone-3.ensures.cases in
     copied_kept c.self.inside.grants.entries c.in_ok-clone.field-0.entries c.self.inside.by_holder
     c.in_ok-clone-3.field-0 c.self.inside.shared.entries c.in_ok-clone-2.field-0.entries filed placed shared
-    c.self.inside.next c.self.invariant
+    c.self.invariant
 
 pub returns : goal.returns
 returns c =
-    ap (listed c.self.inside.next)
-    (entries_from_clone _ _ (λ k l i. search rules) (λ v w i. search rules) c.self.inside.grants.entries
-    c.in_ok-clone.field-0.entries c.in_ok-clone.ensures.cases)
+    entries_from_clone _ _ (λ k l i. search rules) (λ v w i. search rules) c.self.inside.grants.entries
+    c.in_ok-clone.field-0.entries c.in_ok-clone.ensures.cases
     ∙ c.self.view_is
