@@ -1,6 +1,6 @@
 -- What a lock table says to one that asks, and what it has then.
 use Rattle.std.proofs.Common.{ℕ, Bool, true, false, ◌==◌, ◌≡◌, ◌<◌, ◌≤◌, ◌+◌, Option, Some, None, List, [], ◌∷◌, ◌++◌, get_or, refl, sym, ap, subst, ◌∙◌, inl, inr, arith}
-use Rattle.std.specs.Prelude.{◌&&◌, not, if◌then◌else◌, find, All, Contains, IsSome}
+use Rattle.std.specs.Prelude.{◌&&◌, not, if◌then◌else◌, find, All, Contains}
 use Rattle.std.proofs.lemmas.Bool.{eqb-true, eq-eqb, lt-ltb}
 use Rattle.std.proofs.lemmas.List.Elements.{All-contains, All-from_recursion, All-head, All-tail, Contains-append_right}
 use Rattle.std.proofs.lemmas.Map.{none_passes_from_lookup}

@@ -1,19 +1,18 @@
 -- What is so of a grant that is kept in place and the others beside it, by what is so of the others.
-use Rattle.std.proofs.Common.{ℕ, Bool, true, false, ◌==◌, ◌≡◌, ◌<◌, Option, Some, None, List, [], ◌∷◌, ◌++◌, is_some, length, refl, sym, ap, subst, ◌∙◌, inl, inr, arith}
+use Rattle.std.proofs.Common.{ℕ, Bool, true, false, ◌==◌, ◌≡◌, Option, Some, None, List, [], ◌∷◌, ◌++◌, is_some, refl, sym, ap, subst, ◌∙◌, inl, inr, arith}
 use Rattle.std.specs.Prelude.{All, if◌then◌else◌}
 use Rattle.std.specs.Map.{set_value}
 use Rattle.std.proofs.lemmas.Bool.{eqb-true}
 use Rattle.std.proofs.lemmas.List.Elements.{All-cons, All-contains, All-head, All-push, All-tail, Contains-append_right}
 use Rattle.std.proofs.lemmas.List.Sorted.{All-permutation, IsPermutation-cons, IsPermutation-middle, IsPermutation-refl, IsPermutation-to_front, IsPermutation-trans}
 use Rattle.std.proofs.lemmas.Map.Views.{Contains-from_lookup}
-use Rattle.std.proofs.lemmas.Option.{same_Some}
 use Rattle.registry_model.specs.Process.{Text}
 use Rattle.lock_table.specs.declared.grant.Key.{Key}
 use Rattle.lock_table.specs.declared.grant.Held.{Held}
 use Rattle.lock_table.specs.declared.grant.KeptGrant.{KeptGrant}
 use Rattle.lock_table.specs.Filed.{Entry, held_at, is_key}
 use Rattle.lock_table.specs.Grants.{and_others, is_of, Gains, Gone, HasUnder, IsHeld, IsNoneOn, IsOpenTo, Loses, Recounts}
-use Rattle.lock_table.proofs.Keys.{exact}
+use Rattle.lock_table.proofs.Keys.{exact, is_key_self}
 
 -- nothing is filed under a key whose resource has no grant
 pub none_at : (r : Text) (k : Key) (es : List Entry) → (k.resource == r) ≡ true → IsNoneOn r es → held_at es k ≡ None
@@ -34,6 +33,10 @@ module _ (g : KeptGrant) (es : List Entry) where
   pub held_in_place : (k : Key) → is_key k g.key ≡ true → Some g.held ≡ held_at Grants k
   held_in_place k own = rw own refl
 
+  -- so something is filed under its key
+  is_held : IsHeld g.key Grants
+  is_held = (g.held, sym (held_in_place g.key (is_key_self g.key)))
+
   pub has_in_place : (r : Text) → (g.key.resource == r) ≡ true → HasUnder r Grants g.held.requester
   has_in_place r on = ((g.key, g.held), (0, omega arith, refl), eqb-true g.key.resource r on, refl)
 
@@ -48,21 +51,6 @@ module _ (g : KeptGrant) (es : List Entry) where
   open_beside r q off (inl none) =
       inl (All-cons (λ (e : Entry). (e.0.resource == r) ≡ false) (g.key, g.held) es off none)
   open_beside r q off (inr h) = inr (has_beside r q h)
-
-  pub recounts_in_place : (k : Key) (c : ℕ) → is_key k g.key ≡ true
-      → Recounts k c Grants ((g.key, record g.held { count = c }) ∷ es)
-  recounts_in_place k c own = (
-    λ none. absurd (cc (none, held_in_place k own)),
-    λ v found.
-        rw own (ap (λ (h : Held). (g.key, record h { count = c }) ∷ es)
-        (same_Some g.held v (held_in_place k own ∙ found))),
-  )
-
-  pub loses_in_place : (k : Key) → is_key k g.key ≡ true → Loses k Grants es
-  loses_in_place k own = (
-    λ none. absurd (cc (none, held_in_place k own)),
-    λ v found. ((g.key, g.held), own, IsPermutation-refl Grants),
-  )
 
 -- The others, whatever is kept in place
 module _ (kept : Option KeptGrant) (es : List Entry) where
@@ -89,18 +77,6 @@ module _ (kept : Option KeptGrant) (es : List Entry) where
       go None = h
       go (Some g) = has_beside g es r q h
 
-  pub recounts_others : (k : Key) (c : ℕ) (fs : List Entry) → is_of k kept ≡ false → Recounts k c es fs
-      → Recounts k c (and_others kept es) (and_others kept fs)
-  recounts_others k c fs other recounts = go kept other (held_others k other)
-    where
-      go : (o : Option KeptGrant) → is_of k o ≡ false → held_at (and_others o es) k ≡ held_at es k
-          → Recounts k c (and_others o es) (and_others o fs)
-      go None off same = recounts
-      go (Some g) off same = (
-        λ none. ap (λ (l : List Entry). (g.key, g.held) ∷ l) (recounts.0 (sym same ∙ none)),
-        λ v found. rw off (ap (λ (l : List Entry). (g.key, g.held) ∷ l) (recounts.1 v (sym same ∙ found))),
-      )
-
   pub loses_others : (k : Key) (fs : List Entry) → is_of k kept ≡ false → Loses k es fs
       → Loses k (and_others kept es) (and_others kept fs)
   loses_others k fs other loses = go kept (held_others k other)
@@ -122,12 +98,21 @@ module _ (kept : Option KeptGrant) (es : List Entry) where
         λ v found. behind g (loses.1 v (sym same ∙ found)),
       )
 
+  -- what is kept is filed under its key
+  pub kept_held : (g : KeptGrant) → kept ≡ Some g → (k : Key) → k ≡ g.key → IsHeld k (and_others kept es)
+  kept_held g at k same =
+      subst (λ (o : Option KeptGrant). IsHeld k (and_others o es)) (sym at)
+      (subst (λ (q : Key). IsHeld q (and_others (Some g) es)) (sym same) (is_held g es))
+
   pub loses_kept : (k : Key) → is_of k kept ≡ true → Loses k (and_others kept es) es
   loses_kept k = go kept
     where
       go : (o : Option KeptGrant) → is_of k o ≡ true → Loses k (and_others o es) es
       go None own = absurd (cc own)
-      go (Some g) own = loses_in_place g es k own
+      go (Some g) own = (
+        λ none. absurd (cc (none, held_in_place g es k own)),
+        λ v found. ((g.key, g.held), own, IsPermutation-refl ((g.key, g.held) ∷ es)),
+      )
 
   pub gains_others : (e : Entry) (fs : List Entry) → Gains e es fs → Gains e (and_others kept es) (and_others kept fs)
   gains_others e fs gains = go kept

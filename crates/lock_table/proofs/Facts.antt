@@ -1,7 +1,6 @@
 -- What the answers of tests and calls say.
-use Rattle.std.proofs.Common.{ℕ, Bool, true, false, ◌==◌, ◌≡◌, Option, Some, None, Result, Ok, Err, refl, sym, ◌∙◌}
-use Rattle.std.specs.Prelude.{◌&&◌, not, IfNone}
-use Rattle.std.specs.Result.{OnErr, OnOk, is_err}
+use Rattle.std.proofs.Common.{ℕ, Bool, true, false, ◌==◌, ◌≡◌, Option, Some, None, refl, sym, ◌∙◌}
+use Rattle.std.specs.Prelude.{◌&&◌, not, IfNone, MatchBool}
 use Rattle.std.proofs.lemmas.Bool.{eqb-true}
 
 -- both of two tests that hold together
@@ -25,20 +24,17 @@ alike a b r e i = eqb-true a b (go (a == b) (sym e ∙ i))
     go true h = refl
     go false h = cc
 
+-- what is so where a test fails
+pub where_false : (P Q : Type 0) (b r : Bool) → r ≡ not b → r ≡ true → MatchBool b P Q → Q
+where_false P Q true r e i h = absurd (cc (e, i))
+where_false P Q false r e i h = h
+
 -- what is so of the missing and of the other results is so of the missing
 pub on_none_given : {X P : Type 0} (r : Option X) → P → IfNone r P
 on_none_given None h = h
 on_none_given (Some x) h = tt
 
--- what is so of the failed, or of the others, by the answer of `is_err`
-pub err_from : {X E : Type 0} (r : Result X E) → is_err r ≡ true → (P : Type 0) → OnErr r P → P
-err_from (Ok x) e P h = cc
-err_from (Err f) e P h = h
-
-pub ok_from : {X E : Type 0} (r : Result X E) → is_err r ≡ false → (P : Type 0) → OnOk r P → P
-ok_from (Ok x) e P h = h
-ok_from (Err f) e P h = cc
-
+-- what follows from what is so of the missing
 pub on_none : {X P Q : Type 0} (r : Option X) → IfNone r P → (P → Q) → IfNone r Q
 on_none None h f = f h
 on_none (Some x) h f = tt

@@ -11,7 +11,7 @@ use Rattle.lock_table.specs.declared.grant.Held.{Held}
 use Rattle.lock_table.specs.declared.grant.Place.{Place}
 use Rattle.lock_table.specs.Filed.{Entry, held_at, is_key}
 use Rattle.lock_table.specs.Grants.{Gone, IsFreeFor}
-use Rattle.lock_table.specs.Index.{IsIndexed, place_at}
+use Rattle.lock_table.specs.Index.{place_at}
 use Rattle.lock_table.specs.Kept.{IsKept}
 use Rattle.lock_table.specs.Sharers.{IsShared, Joins, Leaves, Shared}
 use Rattle.lock_table.proofs.Index.{Sets, SetsAt, indexed-first, indexed-gone, indexed-recount, number_below}

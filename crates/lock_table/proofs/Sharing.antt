@@ -1,6 +1,6 @@
 -- Who shares each resource, as grants come, change and go.
-use Rattle.std.proofs.Common.{ℕ, Bool, true, false, ◌==◌, ◌≡◌, ◌<◌, ◌≤◌, ◌+◌, ◌-◌, Option, Some, None, List, [], ◌∷◌, ◌++◌, length, cond, refl, sym, ap, subst, ◌∙◌, inl, inr, arith}
-use Rattle.std.specs.Prelude.{if◌then◌else◌, ◌&&◌, ◌⊎◌, nat_lt, not, All, Contains}
+use Rattle.std.proofs.Common.{ℕ, Bool, true, false, ◌==◌, ◌≡◌, ◌<◌, ◌≤◌, ◌+◌, ◌-◌, Option, Some, None, List, [], ◌∷◌, ◌++◌, length, cond, is_some, refl, sym, ap, subst, ◌∙◌, inl, inr, arith}
+use Rattle.std.specs.Prelude.{if◌then◌else◌, ◌&&◌, nat_lt, not, All, MatchBool}
 use Rattle.std.specs.List.{IsDistinct}
 use Rattle.std.specs.Map.{keys_of, set_value}
 use Rattle.std.proofs.lemmas.Bool.{eqb-true, eq-eqb, ltb-true, ltb-false}
@@ -10,21 +10,19 @@ use Rattle.std.proofs.lemmas.List.Sorted.{IsPermutation-map, sum_by_popped}
 use Rattle.std.proofs.lemmas.List.Sums.{sum_by-cons, sum_by_push, count_by-le-length}
 use Rattle.std.proofs.lemmas.Map.{keys-set_value}
 use Rattle.std.proofs.lemmas.Map.Views.{Contains-from_lookup, lookup-from_Contains}
+use Rattle.std.proofs.lemmas.Option.{same_Some}
 use Rattle.registry_model.specs.Process.{Text}
 use Rattle.lock_table.specs.declared.grant.Key.{Key}
 use Rattle.lock_table.specs.declared.grant.Held.{Held}
 use Rattle.lock_table.specs.declared.sharers.Sharers.{Sharers}
 use Rattle.lock_table.specs.Filed.{Entry, held_at, is_key}
-use Rattle.lock_table.specs.Grants.{Gone, HasUnder, IsNoneOn, IsOpenTo}
+use Rattle.lock_table.specs.Grants.{Gone, HasUnder, IsNoneOn, IsOpenTo, IsSomeOn}
 use Rattle.lock_table.specs.Sharers.{IsOpen, IsShared, IsUnder, Joins, Leaves, Shared, grants_in, grants_on, less, more, sharers_of}
 use Rattle.lock_table.proofs.Index.{Sets}
 use Rattle.lock_table.proofs.Keys.{exact, key_laws}
 
 -- What the number of grants on a resource tells
 module _ (r : Text) where
-  weight : Key → ℕ
-  weight k = cond (k.resource == r) 1 0
-
   none_on : (es : List Entry) → grants_on r (keys_of es) ≡ 0 → IsNoneOn r es
   none_on [] zero = All-nil (λ (e : Entry). (e.0.resource == r) ≡ false)
   none_on (e ∷ es) zero =
@@ -40,8 +38,7 @@ module _ (r : Text) where
       go true i sum rest = absurd (omega (arith, sum, zero))
       go false i sum rest = All-cons P e es i (rest (omega (arith, sum, zero)))
 
-  some_on : (es : List Entry) → 0 < grants_on r (keys_of es)
-      → (e : Entry) × Contains es e × (e.0.resource ≡ r)
+  some_on : (es : List Entry) → 0 < grants_on r (keys_of es) → IsSomeOn r es
   some_on [] more = absurd (omega (arith, more))
   some_on (e ∷ es) more =
       go (e.0.resource == r) refl (sum_by-cons (λ (k : Key). cond (k.resource == r) 1 0) e.0 (keys_of es))
@@ -49,14 +46,10 @@ module _ (r : Text) where
     where
       go : (b : Bool) → (e.0.resource == r) ≡ b
           → grants_on r (keys_of (e ∷ es)) ≡ cond b 1 0 + grants_on r (keys_of es)
-          → (0 < grants_on r (keys_of es) → (x : Entry) × Contains es x × (x.0.resource ≡ r))
-          → (x : Entry) × Contains (e ∷ es) x × (x.0.resource ≡ r)
+          → (0 < grants_on r (keys_of es) → IsSomeOn r es) → IsSomeOn r (e ∷ es)
       go true i sum rest = (e, (0, omega arith, refl), eqb-true e.0.resource r i)
       go false i sum rest =
           let h = rest (omega (arith, sum, more)) in (h.0, Contains-append_right (e ∷ []) es h.0 h.1, h.2)
-
-same_some : {X : Type 0} (a b : X) → Some a ≡ Some b → a ≡ b
-same_some a b e = cc e
 
 -- what counting the first grant on a resource makes
 pub joined-first : (old between new : Shared) (r q z y : Text) → sharers_of r old ≡ None → between ≡ old → z ≡ r
@@ -68,20 +61,31 @@ joined-first old between new r q z y none same i j h x = h x ∙ rw (same, i, j,
 
 module _ (es : List Entry) (shared : Shared) (good : IsShared es shared) where
   -- what a look-up of a resource tells of what is filed
+  some-filed : (r : Text) (s : Sharers) → sharers_of r shared ≡ Some s → IsSomeOn r es
+  some-filed r s at =
+      some_on r es (subst (λ (n : ℕ). 0 < n) (sym (ap grants_in at) ∙ good.counted r) (good.some r s at))
+
+  none-filed : (r : Text) → sharers_of r shared ≡ None → IsNoneOn r es
+  none-filed r none = none_on r es (sym (good.counted r) ∙ ap grants_in none)
+
+  pub locked-filed : (r : Text) (b : Bool) → b ≡ is_some (sharers_of r shared)
+      → MatchBool b (IsSomeOn r es) (IsNoneOn r es)
+  locked-filed r b = go (sharers_of r shared) refl
+    where
+      go : (o : Option Sharers) → sharers_of r shared ≡ o → b ≡ is_some o → MatchBool b (IsSomeOn r es) (IsNoneOn r es)
+      go None e same = subst (λ (x : Bool). MatchBool x (IsSomeOn r es) (IsNoneOn r es)) (sym same) (none-filed r e)
+      go (Some s) e same =
+          subst (λ (x : Bool). MatchBool x (IsSomeOn r es) (IsNoneOn r es)) (sym same) (some-filed r s e)
+
   pub under-filed : (r q : Text) → IsDistinct is_key (keys_of es) → IsUnder r q shared → HasUnder r es q
   under-filed r q once h =
-      let count : 0 < grants_on r (keys_of es) =
-      subst (λ (n : ℕ). 0 < n) (sym (ap grants_in h.1) ∙ good.counted r) (good.some r h.0 h.1) in
-      let e = some_on r es count in
+      let e = some-filed r h.0 h.1 in
       let held : held_at es e.0.0 ≡ Some e.0.1 = lookup-from_Contains key_laws e.0.0 e.0.1 es once e.1 in (
         e.0,
         e.1,
         e.2,
         good.named e.0.0 e.0.1 h.0 held (ap (λ (s : Text). sharers_of s shared) e.2 ∙ h.1) ∙ h.2,
       )
-
-  pub none-filed : (r : Text) → sharers_of r shared ≡ None → IsNoneOn r es
-  none-filed r none = none_on r es (sym (good.counted r) ∙ ap grants_in none)
 
   pub open-filed : (r q : Text) → IsDistinct is_key (keys_of es) → IsOpen r q shared → IsOpenTo r es q
   open-filed r q once (inl none) = inl (none-filed r none)
@@ -105,7 +109,7 @@ module _ (es : List Entry) (shared : Shared) (good : IsShared es shared) where
       go : (q : Key) (u : Held) (s : Sharers) (b : Bool) → is_key k q ≡ b → cond b (Some w) (held_at es q) ≡ Some u
           → sharers_of q.resource shared ≡ Some s → u.requester ≡ s.requester
       go q u s true i at of =
-          let here : w ≡ u = same_some w u at in
+          let here : w ≡ u = same_Some w u at in
           sym (ap (λ (h : Held). h.requester) here) ∙ same
           ∙ good.named k v s found (ap (λ (z : Key). sharers_of z.resource shared) (exact k q i) ∙ of)
       go q u s false i at of = good.named q u s at of
@@ -149,14 +153,14 @@ module _ (es : List Entry) (shared : Shared) (good : IsShared es shared) where
     -- the sharers stay under the requester
     kept_name : (o : Option Sharers) → Old ≡ o → (s : Sharers) → Some (more v.requester o) ≡ Some s
         → v.requester ≡ s.requester
-    kept_name None e s f = ap (λ (z : Sharers). z.requester) (same_some (more v.requester None) s f)
+    kept_name None e s f = ap (λ (z : Sharers). z.requester) (same_Some (more v.requester None) s f)
     kept_name (Some t) e s f =
         let h = under-filed k.resource t.requester once (t, e, refl) in
         let clear = All-contains (λ (x : Entry). ((x.0.resource == k.resource) && not (x.1.requester == v.requester)) ≡ false)
         es h.0 free h.1 in
         sym (own (h.0.0.resource == k.resource) (h.0.1.requester == v.requester)
         (eq-eqb h.0.0.resource k.resource h.2) clear (eqb-true h.0.1.requester v.requester))
-        ∙ h.3 ∙ ap (λ (z : Sharers). z.requester) (same_some (more v.requester (Some t)) s f)
+        ∙ h.3 ∙ ap (λ (z : Sharers). z.requester) (same_Some (more v.requester (Some t)) s f)
       where
         own : {P : Type 0} (a b : Bool) → a ≡ true → (a && not b) ≡ false → (b ≡ true → P) → P
         own true true i h rest = rest refl
@@ -182,13 +186,13 @@ module _ (es : List Entry) (shared : Shared) (good : IsShared es shared) where
                 absurd (cc (other, eq-eqb q.resource k.resource on))
             by (Some t) e g =
                 good.named q u t old (ap (λ (z : Text). sharers_of z shared) on ∙ e)
-                ∙ ap (λ (z : Sharers). z.requester) (same_some (more v.requester (Some t)) s g)
+                ∙ ap (λ (z : Sharers). z.requester) (same_Some (more v.requester (Some t)) s g)
         named false i f old = good.named q u s old f
 
         go : (b : Bool) → is_key k q ≡ b → cond b (Some v) (held_at es q) ≡ Some u → u.requester ≡ s.requester
         go true i f =
             let on : k.resource ≡ q.resource = ap (λ (z : Key). z.resource) (exact k q i) in
-            let here : v ≡ u = same_some v u f in
+            let here : v ≡ u = same_Some v u f in
             sym (ap (λ (h : Held). h.requester) here)
             ∙ kept_name Old refl s
             (sym (joins k.resource ∙ ap (λ (b : Bool). if b then Some (more v.requester Old) else Old)
@@ -240,7 +244,7 @@ module _ (es : List Entry) (shared : Shared) (good : IsShared es shared) where
             → (if b then Some (record t { grants = t.grants - 1 }) else None) ≡ Some s
             → (u : Sharers) × (Some t ≡ Some u) × (u.requester ≡ s.requester) × (0 < s.grants)
         go true i f =
-            let same = same_some (record t { grants = t.grants - 1 }) s f in
+            let same = same_Some (record t { grants = t.grants - 1 }) s f in
             let l = ltb-true 1 t.grants i in
             (t, refl, ap (λ (z : Sharers). z.requester) same, omega (arith, l, ap (λ (z : Sharers). z.grants) same))
         go false i f = absurd (cc f)

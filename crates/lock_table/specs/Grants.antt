@@ -23,6 +23,10 @@ abbrev pub HasUnder : Text → List Entry → Text → Type 0
 HasUnder resource es requester =
     (e : Entry) × Contains es e × (e.0.resource ≡ resource) × (e.1.requester ≡ requester)
 
+-- some grant is on the resource
+abbrev pub IsSomeOn : Text → List Entry → Type 0
+IsSomeOn resource es = (e : Entry) × Contains es e × (e.0.resource ≡ resource)
+
 -- no grant is on the resource
 abbrev pub IsNoneOn : Text → List Entry → Type 0
 IsNoneOn resource es = All (λ e. (e.0.resource == resource) ≡ false) es

@@ -1,4 +1,4 @@
-//! The grants of one node: one of the resource `global` in place, and the others.
+//! The grants of one node: one on the resource `global`, which is kept in place, and the others.
 ghost use Rattle.std.specs.Prelude.{◌≡◌, ◌==◌, ◌<◌, ◌-◌, ◌^◌, [], None, Some, false, length, All, IfOk, IfNone, IfSome, OnOk, OnErr};
 ghost use Rattle.std.specs.List.{IsDistinct};
 ghost use Rattle.std.specs.Option.{option_copied};
@@ -12,15 +12,15 @@ use std::alloc::{AllocError, Global};
 use std::marker::Model;
 use term::{Node, Pid, Requester, Resource};
 
-/// Grants by what they are on and who has them. The resource `global` is asked for with each name that is registered, and held
-/// by one registrar at a time: that grant is kept in place, so it costs no search and no memory. One of a second holder would go to
-/// the others.
+/// Grants by what they are on and who has them. The resource `global` is asked for with each name that is registered, and
+/// one registrar has it at a time: that grant is kept in place, so it costs no search and no memory. A second holder's
+/// grant of it goes to the others.
 #[derive(Debug, Drop)]
 pub(crate) struct AllGrants {
     /// The resource `global`.
     global: Resource,
     kept: Option<KeptGrant>,
-    /// Whether none of the others is of `global`. It is never found out again where one was.
+    /// Whether none of the others is on `global`.
     is_apart: bool,
     others: OtherGrants,
 }
@@ -37,7 +37,7 @@ impl Model for AllGrants {
     ghost invariant = { λ t. t.is_apart ≡ true → IsNoneOn t.global t.others };
 }
 
-/// Whether a grant that is kept is the key's.
+/// Whether the grant that is kept is the key's.
 fn is_of(kept: &Option<KeptGrant>, key: &Key) -> bool
     ensures { result ≡ is_kept key.now kept.now }
 {
@@ -133,7 +133,7 @@ impl AllGrants {
         }
     }
 
-    /// Files the first grant of a key, in place where it is one of `global` and nobody else has it. A refusal changes nothing.
+    /// Files the first grant of a key, in place where it is on `global` and none is kept there. A refusal changes nothing.
     pub(crate) fn file(
         &mut self,
         key: Key,
@@ -170,6 +170,7 @@ impl AllGrants {
             self.kept = None;
         } else {
             self.others.remove(key);
+            self.is_apart = self.is_apart || !self.others.is_locked(&self.global);
         }
     }
 

@@ -1,9 +1,9 @@
 //! The grants that are filed by what they are on and who has them, and by their holders.
-ghost use Rattle.std.specs.Prelude.{◌≡◌, ◌==◌, ◌<◌, ◌-◌, ◌^◌, [], None, Some, false, length, All, IfOk, IfNone, IfSome, OnOk, OnErr};
+ghost use Rattle.std.specs.Prelude.{◌≡◌, ◌==◌, ◌<◌, ◌-◌, ◌^◌, [], None, Some, false, length, All, MatchBool, IfOk, IfNone, IfSome, OnOk, OnErr};
 ghost use Rattle.std.specs.Option.{option_copied};
 ghost use Rattle.registry_model.specs.Process.{is_process};
 ghost use Rattle.lock_table.specs.Filed.{held_at};
-ghost use Rattle.lock_table.specs.Grants.{HasUnder, IsOpenTo, IsFreeFor, IsHeld, Recounts, Gains, Loses};
+ghost use Rattle.lock_table.specs.Grants.{HasUnder, IsSomeOn, IsNoneOn, IsOpenTo, IsFreeFor, IsHeld, Recounts, Gains, Loses};
 ghost use Rattle.lock_table.specs.Index.{IsFirstFrom, IsNoneFrom};
 
 use crate::grant::{Held, Key, Place};
@@ -14,8 +14,8 @@ use std::collections::BTreeMap;
 use std::marker::Model;
 use term::{Node, Pid, Requester, Resource};
 
-/// Grants by what they are on and who has them, with the requester that each resource is under, and where the grants of each
-/// holder stand.
+/// Grants by what they are on and who has them, with the requester that each resource is under, and where the grants of
+/// each holder stand.
 #[derive(Debug, Drop)]
 pub(crate) struct OtherGrants {
     grants: IndexMap<Key, Held>,
@@ -84,6 +84,13 @@ impl OtherGrants {
         ensures value { option_copied result ≡ held_at self.now key.now }
     {
         self.grants.get(key)
+    }
+
+    /// Whether some grant is on a resource.
+    pub(crate) fn is_locked(&self, resource: &Resource) -> bool
+        ensures { MatchBool result (IsSomeOn resource.now self.now) (IsNoneOn resource.now self.now) }
+    {
+        self.shared.contains_key(resource)
     }
 
     /// The requester that keeps others from a resource, where it is not this one.

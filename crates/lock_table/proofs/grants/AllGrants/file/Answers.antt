@@ -1,4 +1,4 @@
-use Rattle.std.proofs.Common.{Bool, true, false, ◌==◌, ◌≡◌, ◌<◌, ◌∙◌, sym, ap}
+use Rattle.std.proofs.Common.{false, ◌==◌, ◌≡◌, ◌<◌, ◌∙◌, ap}
 use Rattle.std.specs.Prelude.{◌&&◌, not}
 use Rattle.lock_table.specs.Filed.{Entry}
 use Rattle.lock_table.proofs.Facts.{unlike}

@@ -1,9 +1,6 @@
-use Rattle.std.proofs.Common.{Option, Some, false, ◌==◌, ◌≡◌, ◌∙◌, sym, ap, subst, inl, inr}
-use Rattle.std.proofs.lemmas.List.Elements.{All-cons}
+use Rattle.std.proofs.Common.{Option, Some, ◌∙◌, sym, subst}
 use Rattle.std.proofs.lemmas.Option.{IfSome_then}
-use Rattle.registry_model.specs.Process.{Text}
 use Rattle.lock_table.specs.declared.grant.KeptGrant.{KeptGrant}
-use Rattle.lock_table.specs.Filed.{Entry}
 use Rattle.lock_table.specs.Grants.{HasUnder, IsOpenTo, and_others}
 use Rattle.lock_table.proofs.Facts.{on_none}
 use Rattle.lock_table.proofs.Beside.{has_in_place, has_others, open_beside, open_in_place}

@@ -1,4 +1,4 @@
-use Rattle.std.proofs.Common.{◌∙◌, ◌+◌, sym, ap, arith, Option}
+use Rattle.std.proofs.Common.{◌∙◌, sym, ap, arith, Option}
 use Rattle.std.proofs.lemmas.Result.{err_from_is_err_and}
 use Rattle.protocol_model.specs.Letter.{Id}
 use Rattle.lock_table.specs.Verdicts.{verdict_of}

@@ -1,4 +1,3 @@
-use Rattle.std.proofs.Common.{◌∙◌}
 use Rattle.lock_table.proofs.Removal.{removed}
 use Rattle.lock_table.proofs.table.LockTable.remove.Goals as goal
 
