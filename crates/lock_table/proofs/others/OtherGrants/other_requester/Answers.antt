@@ -7,8 +7,11 @@ pub returns-clause-some : goal.returns-clause-some
 returns-clause-some c =
     rw (← c.self.view_is)
     (IfSome_then c.other_requester.result c.other_requester.ensures.some
-    (λ other h. (under-filed c.self.inside.grants.entries c.self.inside.shared.entries c.self.invariant.counted
-    c.args.resource.now other c.self.invariant.once h.0, h.1)))
+    (λ other h. (
+      under-filed c.self.inside.grants.entries c.self.inside.shared.entries c.self.invariant.counted
+          c.args.resource.now other c.self.invariant.once h.0,
+      h.1,
+    )))
 
 pub returns-clause-none : goal.returns-clause-none
 returns-clause-none c =
