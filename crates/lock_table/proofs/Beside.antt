@@ -11,7 +11,7 @@ use Rattle.lock_table.specs.declared.grant.Key.{Key}
 use Rattle.lock_table.specs.declared.grant.Held.{Held}
 use Rattle.lock_table.specs.declared.grant.KeptGrant.{KeptGrant}
 use Rattle.lock_table.specs.Filed.{Entry, held_at, is_key}
-use Rattle.lock_table.specs.Grants.{and_others, is_of, Gains, Gone, HasUnder, IsHeld, IsNoneOn, IsOpenTo, Loses, Recounts}
+use Rattle.lock_table.specs.Grants.{and_others, is_in_place, Gains, Gone, HasUnder, IsHeld, IsNoneOn, IsOpenTo, Loses, Recounts}
 use Rattle.lock_table.proofs.Keys.{exact, is_key_self}
 
 -- nothing is filed under a key whose resource has no grant
@@ -63,10 +63,10 @@ module _ (kept : Option KeptGrant) (es : List Entry) where
       go (Some g) h = All-tail P (g.key, g.held) es h
 
   -- what is kept in place is another key's
-  pub held_others : (k : Key) → is_of k kept ≡ false → held_at (and_others kept es) k ≡ held_at es k
+  pub held_others : (k : Key) → is_in_place k kept ≡ false → held_at (and_others kept es) k ≡ held_at es k
   held_others k = go kept
     where
-      go : (o : Option KeptGrant) → is_of k o ≡ false → held_at (and_others o es) k ≡ held_at es k
+      go : (o : Option KeptGrant) → is_in_place k o ≡ false → held_at (and_others o es) k ≡ held_at es k
       go None other = refl
       go (Some g) other = rw other refl
 
@@ -77,7 +77,7 @@ module _ (kept : Option KeptGrant) (es : List Entry) where
       go None = h
       go (Some g) = has_beside g es r q h
 
-  pub loses_others : (k : Key) (fs : List Entry) → is_of k kept ≡ false → Loses k es fs
+  pub loses_others : (k : Key) (fs : List Entry) → is_in_place k kept ≡ false → Loses k es fs
       → Loses k (and_others kept es) (and_others kept fs)
   loses_others k fs other loses = go kept (held_others k other)
     where
@@ -104,10 +104,10 @@ module _ (kept : Option KeptGrant) (es : List Entry) where
       subst (λ (o : Option KeptGrant). IsHeld k (and_others o es)) (sym at)
       (subst (λ (q : Key). IsHeld q (and_others (Some g) es)) (sym same) (is_held g es))
 
-  pub loses_kept : (k : Key) → is_of k kept ≡ true → Loses k (and_others kept es) es
+  pub loses_kept : (k : Key) → is_in_place k kept ≡ true → Loses k (and_others kept es) es
   loses_kept k = go kept
     where
-      go : (o : Option KeptGrant) → is_of k o ≡ true → Loses k (and_others o es) es
+      go : (o : Option KeptGrant) → is_in_place k o ≡ true → Loses k (and_others o es) es
       go None own = absurd (cc own)
       go (Some g) own = (
         λ none. absurd (cc (none, held_in_place g es k own)),

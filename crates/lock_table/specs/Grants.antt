@@ -14,9 +14,9 @@ and_others None es = es
 and_others (Some g) es = (g.key, g.held) ∷ es
 
 -- whether it is the key's
-abbrev pub is_of : Key → Option KeptGrant → Bool
-is_of k None = false
-is_of k (Some g) = is_key k g.key
+abbrev pub is_in_place : Key → Option KeptGrant → Bool
+is_in_place k None = false
+is_in_place k (Some g) = is_key k g.key
 
 -- some grant on the resource is in the requester's name
 abbrev pub HasUnder : Text → List Entry → Text → Type 0
@@ -50,14 +50,14 @@ Recounts k c es fs =
     (held_at es k ≡ None → fs ≡ es)
     × ((v : Held) → held_at es k ≡ Some v → fs ≡ set_value (is_key k) es (record v { count = c }))
 
--- a grant more
+-- a grant more, in whatever order
 abbrev pub Gains : Entry → List Entry → List Entry → Type 0
 Gains e es fs = IsPermutation (es ++ e ∷ []) fs
 
--- a grant of the key less
+-- a grant of the key less, in whatever order
 abbrev pub Gone : Key → List Entry → List Entry → Type 0
 Gone k es fs = (x : Entry) × (is_key k x.0 ≡ true) × IsPermutation es (x ∷ fs)
 
--- so where there is one
+-- the key's grant is gone, where there is one
 abbrev pub Loses : Key → List Entry → List Entry → Type 0
 Loses k es fs = (held_at es k ≡ None → fs ≡ es) × ((v : Held) → held_at es k ≡ Some v → Gone k es fs)

@@ -1,10 +1,9 @@
 //! The grants of one node: one on the resource `global`, which is kept in place, and the others.
 ghost use Rattle.std.specs.Prelude.{◌≡◌, ◌==◌, ◌<◌, ◌-◌, ◌^◌, [], None, Some, false, length, All, IfOk, IfNone, IfSome, OnOk, OnErr};
-ghost use Rattle.std.specs.List.{IsDistinct};
 ghost use Rattle.std.specs.Option.{option_copied};
 ghost use Rattle.registry_model.specs.Process.{is_process};
 ghost use Rattle.lock_table.specs.Filed.{held_at};
-ghost use Rattle.lock_table.specs.Grants.{is_of as is_kept, HasUnder, IsOpenTo, IsFreeFor, IsHeld, Recounts, Gains, Loses};
+ghost use Rattle.lock_table.specs.Grants.{is_in_place, HasUnder, IsOpenTo, IsFreeFor, IsHeld, Recounts, Gains, Loses};
 
 use crate::grant::{Held, KeptGrant, Key};
 use crate::others::OtherGrants;
@@ -38,8 +37,8 @@ impl Model for AllGrants {
 }
 
 /// Whether the grant that is kept is the key's.
-fn is_of(kept: &Option<KeptGrant>, key: &Key) -> bool
-    ensures { result ≡ is_kept key.now kept.now }
+fn is_kept(kept: &Option<KeptGrant>, key: &Key) -> bool
+    ensures { result ≡ is_in_place key.now kept.now }
 {
     match kept {
         Some(grant) => *key == grant.key,
@@ -124,7 +123,7 @@ impl AllGrants {
     pub(crate) fn set_count(&mut self, key: &Key, count: u32)
         ensures { Recounts key.now count self.old self.new }
     {
-        if !is_of(&self.kept, key) {
+        if !is_kept(&self.kept, key) {
             self.others.set_count(key, count);
             return;
         }
@@ -166,7 +165,7 @@ impl AllGrants {
     pub(crate) fn remove(&mut self, key: &Key)
         ensures { Loses key.now self.old self.new }
     {
-        if is_of(&self.kept, key) {
+        if is_kept(&self.kept, key) {
             self.kept = None;
         } else {
             self.others.remove(key);

@@ -5,20 +5,20 @@ use Rattle.lock_table.proofs.Facts.{where_false}
 use Rattle.lock_table.proofs.grants.AllGrants.remove.Goals as goal
 use Rattle.lock_table.proofs.grants.AllGrants.remove.Goals.{then-self, else-self}
 
-pub returns-then-is_of : goal.returns-then-is_of
-returns-then-is_of c =
+pub returns-then-is_kept : goal.returns-then-is_kept
+returns-then-is_kept c =
     rw (← c.self.view_is)
-    (loses_kept c.self.inside.kept c.self.inside.others c.args.key.now (sym c.is_of.ensures ∙ c.if-is_of.true))
+    (loses_kept c.self.inside.kept c.self.inside.others c.args.key.now (sym c.is_kept.ensures ∙ c.if-is_kept.true))
 
 pub returns-after-self : goal.returns-after-self
 returns-after-self c =
     rw (← c.self.view_is)
     (loses_others c.self.inside.kept c.self.inside.others c.args.key.now c.remove.new.self
-    (sym c.is_of.ensures ∙ c.if-is_of.false) c.remove.ensures)
+    (sym c.is_kept.ensures ∙ c.if-is_kept.false) c.remove.ensures)
 
 -- none was on `global`, or none is any more
-pub invariant_of-self-else-is_of : goal.invariant_of-self-else-is_of
-invariant_of-self-else-is_of c = λ apart. elim c.if-self.branch [
+pub invariant_of-self-else-is_kept : goal.invariant_of-self-else-is_kept
+invariant_of-self-else-is_kept c = λ apart. elim c.if-self.branch [
   | then-self w ↦
       none_lost c.self.inside.global c.args.key.now c.self.inside.others c.remove.new.self c.remove.ensures
       (c.self.invariant w.if-self.true)
