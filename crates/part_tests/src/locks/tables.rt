@@ -139,6 +139,41 @@ down a
 ask b.1 global b grant
 ";
 
+/// The resource `global` has two holders, and each goes before the other.
+const GLOBAL: &str = "\
+ask a.1 global a grant
+ask a.2 global a grant
+ask a.1 global a grant
+ask a.2 db r1 grant
+count a.1 global a 2
+count a.2 global a 1
+back a.1 global a
+back a.1 global a
+back a.1 global a
+count a.1 global a 0
+count a.2 global a 1
+ask b.1 global b a
+ask a.1 global a grant
+back a.2 global a
+ask b.1 global b a
+count a.1 global a 1
+back a.1 global b
+count a.1 global a 1
+back a.1 global a
+count a.1 global a 0
+ask b.1 global b grant
+back b.1 global b
+ask a.2 global a grant
+ask a.1 global a grant
+ask a.1 global a grant
+exit a.2
+count a.2 global a 0
+count a.2 db r1 0
+count a.1 global a 2
+down a
+ask b.1 global b grant
+";
+
 /// What is given back stands between others.
 const MIDDLE: &str = "\
 ask m.3 c r3 grant
@@ -204,7 +239,7 @@ ask m.2 a r1 r2
 
 #[test]
 fn shares_by_requester(rt: HostRuntime) {
-    for script in [SHARED, DROPPED, MIDDLE, HOLDERS, LAST] {
+    for script in [SHARED, DROPPED, GLOBAL, MIDDLE, HOLDERS, LAST] {
         assert_eq!(rt; first_wrong(&mut LockTable::new(rt.alloc()), script), None);
     }
     assert!(rt; copy_keeps(rt.alloc()));
