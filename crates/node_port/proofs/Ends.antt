@@ -1,18 +1,18 @@
 -- How the program of a node ran from its first line to its end.
-use Rattle.std.proofs.Common.{ℕ, Bool, true, false, ◌≡◌, inl, inr, Ok, Err, List, [], ◌∷◌, ◌++◌, Option, refl, sym, ap, subst, ◌∙◌, append-nil, append_assoc}
-use Rattle.std.specs.Prelude.{flat_map, bytes_eq, codes, ◌⊎◌, Result, MatchResult}
+use Rattle.std.proofs.Common.{ℕ, Bool, true, false, ◌≡◌, inl, inr, Ok, Err, List, [], ◌∷◌, ◌++◌, Option, refl, sym, subst, append-nil}
+use Rattle.std.specs.Prelude.{flat_map, bytes_eq, codes, Result, MatchResult}
 use Rattle.std.specs.Io.KnownBytes.{Appends, Keeps}
 use Rattle.std.specs.List.Sorted.{IsStrictlyIncreasing}
 use Rattle.std.proofs.KnownBytes.{Appends-nil, Appends-trans, Appends-kept}
-use Rattle.text_lines.specs.Lines.{LosesLines, LosesInto, LosesWithinLine, HasNoLine}
+use Rattle.text_lines.specs.Lines.{LosesLines, LosesWithinLine, HasNoLine}
 use Rattle.text_lines.specs.Writing.{AppendsPart}
 use Rattle.text_lines.specs.declared.faults.StreamFault.{StreamFault}
 use Rattle.text_lines.proofs.Known.{LosesLines-nil, LosesLines-trans, LosesInto-whole, LosesInto-behind}
-use Rattle.text_lines.proofs.Written.{AppendsPart-none, AppendsPart-behind, AppendsPart-whole}
+use Rattle.text_lines.proofs.Written.{AppendsPart-behind, AppendsPart-whole}
 use Rattle.node_port.specs.Deeds.{Stand}
 use Rattle.node_port.specs.Playing.{Printed, printed_text, PlaysAll}
 use Rattle.node_port.specs.Ran.{says_founds, behind_first, opened_so, first_text, Done, Ends, NodeRan, NodeStopped}
-use Rattle.node_port.specs.Working.{PlaysOn, StopsOn, PrintsLine, PrintsPart, OpensBy, StopsBy, GoesBehind, StopsBehind, RunsFrom, StopsFrom, StopsNext}
+use Rattle.node_port.specs.Working.{PlaysOn, StopsOn, OpensBy, StopsBy, GoesBehind, StopsBehind, RunsFrom, StopsFrom, StopsNext}
 use Rattle.node_port.specs.declared.port.Standing.{Standing}
 use Rattle.node_port.specs.declared.port.Standing.TheVariants.{Runs, HasLeft, Broken, Spent}
 use Rattle.node_port.proofs.Playing.{plays_more}

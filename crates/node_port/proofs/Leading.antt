@@ -1,12 +1,10 @@
 -- What leads a node from one moment to a later one: what was read and printed on the way, what is shown, and what its log says.
-use Rattle.std.proofs.Common.{◌≡◌, ℕ, suc, zero, Bool, true, false, inl, inr, Ok, Err, Option, Some, None, List, [], ◌∷◌, ◌++◌, map, refl, sym, ap, subst, ◌∙◌, append-nil, append_assoc, All}
-use Rattle.std.specs.Prelude.{flat_map, Contains, ◌⊎◌, Result}
+use Rattle.std.proofs.Common.{◌≡◌, ℕ, suc, inl, inr, List, [], ◌∷◌, ◌++◌, map, refl, sym, ap, subst, ◌∙◌, append-nil, append_assoc, All}
+use Rattle.std.specs.Prelude.{Contains, ◌⊎◌, Result}
 use Rattle.std.proofs.lemmas.Grind.{flat_map-append}
 use Rattle.std.proofs.lemmas.List.Elements.{All-nil, All-cons, All-append, All-weaker, Contains-append_left}
 use Rattle.protocol_model.specs.Event.{Answer as AnyAnswer}
 use Rattle.node_loop.specs.declared.edit.Edition.{Edition}
-use Rattle.node_loop.specs.declared.edit.Note.TheVariants.{Nothing}
-use Rattle.node_loop.specs.declared.edit.Owed.{Owed}
 use Rattle.node_loop.specs.declared.edit.Update.{Update}
 use Rattle.node_loop.specs.declared.item.Item.{Item}
 use Rattle.node_loop.specs.declared.item.Ticket.{Ticket}
@@ -19,7 +17,7 @@ use Rattle.node_loop.specs.Held.{Looping, Written}
 use Rattle.node_loop.specs.Items.{by_leave}
 use Rattle.node_loop.specs.Owing.{shown_by, Owes}
 use Rattle.node_loop.specs.Steps.{Outcome, entry_of}
-use Rattle.node_loop.specs.Told.{Told, Came, Answered}
+use Rattle.node_loop.specs.Told.{Told, Came}
 use Rattle.node_loop.proofs.Answers.{next_is_logged}
 use Rattle.node_loop.proofs.Moving.{IsKept, turns, turn_of}
 use Rattle.node_loop.proofs.Owing.{turns_keep}

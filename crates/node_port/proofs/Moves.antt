@@ -1,5 +1,5 @@
 -- What each sending and each taking of an end of lines keeps, a turn keeps.
-use Rattle.std.proofs.Common.{◌≡◌, ℕ, Bool, true, false, List, [], ◌∷◌, sym, ap, subst, inl, inr, refl}
+use Rattle.std.proofs.Common.{◌≡◌, ℕ, Bool, true, false, List, [], ◌∷◌, sym, subst, inl, inr}
 use Rattle.std.specs.Prelude.{◌⊎◌, ◌==◌, if◌then◌else◌}
 use Rattle.tray.specs.Held.{Waiting}
 use Rattle.tray.specs.Draining.{Sends, DrainedAll}
@@ -10,7 +10,7 @@ use Rattle.node_loop.specs.Held.{Looping}
 use Rattle.node_loop.specs.Steps.{Outcome}
 use Rattle.node_loop.specs.Turned.{Took, Missed, Turned}
 use Rattle.wire_end.specs.declared.wire_end.Wiring.{Wiring}
-use Rattle.wire_end.specs.Wirings.{kept, printed, posted, Posts, Refuses, Takes, Misses}
+use Rattle.wire_end.specs.Wirings.{kept, printed, Posts, Refuses, Takes, Misses}
 
 module _ (P : Wiring → Type 0) (by_post : (s : Wiring) (to : ℕ) (i : Item) (t : Wiring) → Posts s to i t → P s → P t) (by_taking : (s : Wiring) (from : ℕ) (i : Item) (t : Wiring) → Takes s from i t → P s → P t) where
   sends_hold : (to : ℕ) (s : Wiring) (items : List Item) (t : Wiring) → Sends Posts to s items t → P s → P t

@@ -1,5 +1,5 @@
 -- How a node opens by its first line, and goes on behind it.
-use Rattle.std.proofs.Common.{ℕ, Bool, true, false, ◌≡◌, inl, inr, Ok, Err, List, [], ◌∷◌, ◌++◌, Option, refl, sym, ap, subst, ◌∙◌, append-nil, string_bytes}
+use Rattle.std.proofs.Common.{ℕ, Bool, true, false, ◌≡◌, inr, Ok, Err, List, [], ◌∷◌, ◌++◌, Option, refl, sym, ap, subst, ◌∙◌, append-nil, string_bytes}
 use Rattle.std.specs.Prelude.{◌⊎◌, flat_map, codes, bytes_eq, Result, MatchResult, IfOk}
 use Rattle.std.specs.Io.KnownBytes.{Appends, Keeps}
 use Rattle.std.proofs.KnownBytes.{Keeps-trans, Appends-kept}

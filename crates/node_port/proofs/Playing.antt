@@ -10,17 +10,15 @@ use Rattle.text_lines.specs.declared.faults.StreamFault.{StreamFault}
 use Rattle.text_lines.specs.declared.lines.Line.{Line}
 use Rattle.text_lines.proofs.Known.{LosesLines-nil, LosesLines-trans, LosesInto-whole}
 use Rattle.text_lines.proofs.Written.{AppendsPart-behind, AppendsPart-whole}
-use Rattle.wire_end.specs.declared.wire_end.Wiring.{Wiring}
 use Rattle.node_port.specs.Asking.{Reader, reader_of}
 use Rattle.node_port.specs.Commands.{Taken, Follows, Refused, Strange, Misplaced, Unfit, IsTaken, Says, TakenAs}
 use Rattle.node_port.specs.Deeds.{Stand, changes_by, replies_by}
 use Rattle.node_port.specs.Edits.{changed_lines}
-use Rattle.node_port.specs.Playing.{Printed, printed_text, printed_by, printed_out, said, spent, waiting, PlaysLine, MoreOnly, PlaysAll}
+use Rattle.node_port.specs.Playing.{Printed, printed_text, printed_by, said, spent, waiting, PlaysLine, MoreOnly, PlaysAll}
 use Rattle.node_port.specs.Ran.{Ends}
 use Rattle.node_port.specs.Shown.{Shown, Tells, shown_lines}
 use Rattle.node_port.specs.Working.{stand_of, Grows, IsEmpty, PlaysAt, PlaysOn, PlaysTo, StopsOn, PrintsLine, PrintsPart, TakesNext, StopsNext}
 use Rattle.node_port.specs.declared.commands.Command.{Command}
-use Rattle.node_port.specs.declared.commands.Command.TheVariants.{Letter}
 use Rattle.node_port.specs.declared.port.Port.{Port}
 use Rattle.node_port.specs.declared.port.Standing.{Standing}
 use Rattle.node_port.specs.declared.port.Standing.TheVariants.{Runs, HasLeft, Broken, Spent}

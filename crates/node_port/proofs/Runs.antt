@@ -1,6 +1,6 @@
 -- What the lines of a node come to, all together.
-use Rattle.std.proofs.Common.{ℕ, Bool, true, false, ◌≡◌, inl, inr, Ok, Err, Option, Some, None, List, [], ◌∷◌, ◌++◌, map, refl, sym, ap, subst, ◌∙◌, append-nil, append_assoc, arith, eq-eqb, All}
-use Rattle.std.specs.Prelude.{flat_map, if◌then◌else◌, ◌==◌, ◌||◌}
+use Rattle.std.proofs.Common.{ℕ, Bool, true, false, ◌≡◌, Ok, Option, Some, None, List, [], ◌∷◌, ◌++◌, map, refl, sym, ap, subst, ◌∙◌, append-nil, arith, eq-eqb, All}
+use Rattle.std.specs.Prelude.{if◌then◌else◌, ◌==◌}
 use Rattle.std.specs.List.Sorted.{IsStrictlyIncreasing}
 use Rattle.std.proofs.lemmas.Bool.{or_left}
 use Rattle.std.proofs.lemmas.List.Elements.{All-nil, All-cons, All-append}
@@ -14,20 +14,20 @@ use Rattle.node_loop.specs.Answers.{LogsAnswer}
 use Rattle.node_loop.specs.Coming.{begun, IsLoopOf}
 use Rattle.node_loop.specs.Editions.{opening}
 use Rattle.node_loop.specs.Held.{Looping, Written}
-use Rattle.node_loop.specs.NodeCoreHeld.{Held, fresh}
+use Rattle.node_loop.specs.NodeCoreHeld.{fresh}
 use Rattle.node_loop.specs.Openings.{opening_core}
 use Rattle.node_loop.specs.Owing.{LeadsTo, Owes, shown_by}
 use Rattle.wire_end.specs.declared.line.LinkLine.{LinkLine}
 use Rattle.wire_end.specs.declared.wire_end.Wiring.{Wiring}
 use Rattle.wire_end.specs.Hearing.{HearsAt, LosesAt, laid_if, lost_where}
-use Rattle.wire_end.specs.Wirings.{place, wire_at, begun as begun_end}
+use Rattle.wire_end.specs.Wirings.{place, wire_at}
 use Rattle.node_port.specs.Asking.{Reader, reader_of}
 use Rattle.node_port.specs.Commands.{Taken, Follows, Refused, Strange, Misplaced, Unfit, IsTaken}
 use Rattle.node_port.specs.Deeds.{Stand, IsAllTold, changes_by, replies_by}
 use Rattle.node_port.specs.Edits.{updates_of}
 use Rattle.node_port.specs.Playing.{Printed, asked, Gives, printed_out, said, spent, is_waiting, waiting, PlaysLine, MoreOnly, PlaysAll}
 use Rattle.node_port.specs.Ran.{ReadsOne, Reads, all_updates, all_letters, all_answers, IsGiven, IsRun, core_of, opened_so, shown_behind}
-use Rattle.node_port.specs.Shown.{Shown, Tells, Counts, Gaps, Misses, Waits, Spends}
+use Rattle.node_port.specs.Shown.{Shown, Tells, Waits, Spends}
 use Rattle.node_port.specs.declared.commands.Command.TheVariants.{Ask, Steps, Letter, Down, Tick}
 use Rattle.node_port.specs.declared.port.Standing.{Standing}
 use Rattle.node_port.specs.declared.port.Standing.TheVariants.{Runs, HasLeft, Broken, Spent}

@@ -1,8 +1,8 @@
 -- What a node does, piece by piece.
 use Rattle.std.proofs.Common.{ℕ, Bool, true, false, ◌≡◌, inl, inr, Ok, Err, Option, Some, None, List, [], ◌∷◌, ◌++◌, map, refl, sym, ap, subst, ◌∙◌, append-nil, append_assoc}
-use Rattle.std.specs.Prelude.{◌&&◌, ◌≢◌}
+use Rattle.std.specs.Prelude.{◌≢◌}
 use Rattle.std.specs.List.{list_all}
-use Rattle.std.proofs.lemmas.Bool.{and_from, and_parts, true≢false, false≢true}
+use Rattle.std.proofs.lemmas.Bool.{and_from, true≢false, false≢true}
 use Rattle.std.proofs.lemmas.Grind.{flat_map-append}
 use Rattle.std.proofs.lemmas.List.{map-append}
 use Rattle.std.proofs.lemmas.List.Folds.{list_all-append}
@@ -19,14 +19,12 @@ use Rattle.wire_end.specs.declared.line.LinkLine.{LinkLine}
 use Rattle.wire_end.specs.declared.wire_end.Wiring.{Wiring}
 use Rattle.wire_end.specs.Hearing.{Hears, RefusesAt, Loses, LosesAt}
 use Rattle.wire_end.specs.Wirings.{place}
-use Rattle.node_port.specs.Commands.{Taken, Follows, Strange, Misplaced, Unfit, TakenAs, is_done}
+use Rattle.node_port.specs.Commands.{Taken, Strange, Misplaced, Unfit, TakenAs, is_done}
 use Rattle.node_port.specs.Deeds.{Stand, Deed, Turn, Show, Hand, Does, DoesAll, BreaksOff, IsAllTold, change_by, changes_by, reply_by, replies_by, goes_on, all_go_on, is_still}
-use Rattle.node_port.specs.Edits.{Changed}
-use Rattle.node_port.specs.Playing.{Gives, EndsFor, IsMisplaced, said, spent, waiting}
+use Rattle.node_port.specs.Playing.{Gives, EndsFor, said, spent}
 use Rattle.node_port.specs.Shown.{Shown, Tells, Spends}
 use Rattle.node_port.specs.Working.{stand_of, Grows, Works, ShowsAll, ShowsStill, GoesOn, ComesTo, stands_behind, Concludes, EndsIn, Settles, RefusesFor, PlaysAt}
 use Rattle.node_port.specs.declared.commands.Command.TheVariants.{Letter, Down}
-use Rattle.node_port.specs.declared.output.Output.{Output}
 use Rattle.node_port.specs.declared.port.Port.{Port}
 use Rattle.node_port.specs.declared.port.Standing.{Standing}
 use Rattle.node_port.specs.declared.port.Standing.TheVariants.{Runs, HasLeft, Broken, Spent}

@@ -1,5 +1,5 @@
 -- What a node does between a line that it reads and what it prints for it.
-use Rattle.std.specs.Prelude.{ℕ, Bool, true, false, ◌≡◌, Option, Some, Ok, Err, List, [], ◌∷◌, ◌++◌, flat_map}
+use Rattle.std.specs.Prelude.{Bool, true, false, ◌≡◌, Some, Err, List, [], ◌∷◌, ◌++◌, flat_map}
 use Rattle.std.specs.List.{list_all}
 use Rattle.node_loop.specs.declared.edit.Note.TheVariants.{Nothing}
 use Rattle.node_loop.specs.declared.fault.TurnFault.TheVariants.{StampsSpent}

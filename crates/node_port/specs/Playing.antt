@@ -12,7 +12,7 @@ use Rattle.node_port.specs.Deeds.{Stand, Deed, DoesAll, BreaksOff, IsAllTold, ch
 use Rattle.node_port.specs.Edits.{Changed, changed_lines}
 use Rattle.node_port.specs.Shown.{Shown, Tells, Counts, Gaps, Misses, Waits, Spends, line_fault_of, shown_lines}
 use Rattle.node_port.specs.Shown as shown
-use Rattle.node_port.specs.declared.commands.Command.TheVariants.{Ask, Steps, Letter, Down, Tick}
+use Rattle.node_port.specs.declared.commands.Command.TheVariants.{Ask, Steps, Letter, Down}
 use Rattle.node_port.specs.declared.port.Standing.{Standing}
 use Rattle.node_port.specs.declared.port.Standing.TheVariants.{Runs, HasLeft, Broken, Spent}
 

@@ -1,5 +1,5 @@
 //! What is printed for one line.
-ghost use Rattle.std.specs.Prelude.{◌≡◌, ◌++◌, [], OnOk, string_bytes};
+ghost use Rattle.std.specs.Prelude.{◌++◌, OnOk, string_bytes};
 ghost use Rattle.text_lines.specs.Writing.{Writes};
 ghost use Rattle.node_port.specs.Working.{IsEmpty};
 

@@ -4,7 +4,6 @@ ghost use Rattle.std.specs.List.{All};
 ghost use Rattle.term.specs.NodeSets.{set_of};
 ghost use Rattle.term.specs.Nodes.{IsFirst, name_of};
 ghost use Rattle.node_loop.specs.Coming.{begun};
-ghost use Rattle.wire_end.specs.Wirings.{begun as begun_end};
 ghost use Rattle.node_port.specs.Asking.{last_process as last_process_of};
 ghost use Rattle.node_port.specs.Playing.{asked};
 ghost use Rattle.node_port.specs.Ran.{core_of, opened_so};

@@ -9,8 +9,8 @@ ghost use Rattle.term.specs.NodeSets.{set_of};
 ghost use Rattle.node_port.specs.Asking.{reader_of};
 ghost use Rattle.node_port.specs.Commands.{Taken, IsTaken};
 ghost use Rattle.node_port.specs.Playing.{spent, waiting};
-ghost use Rattle.node_port.specs.Ran.{opened_so, Ends, NodeRan, NodeStopped};
-ghost use Rattle.node_port.specs.Working.{stand_of, IsEmpty, PlaysAt, PlaysOn, StopsOn, PrintsLine, PrintsPart, OpensBy, StopsBy, TakesNext, StopsNext, FoundsBy, Founds, PlaysTo, GoesBehind, StopsBehind, RunsFrom, StopsFrom};
+ghost use Rattle.node_port.specs.Ran.{opened_so, NodeRan, NodeStopped};
+ghost use Rattle.node_port.specs.Working.{stand_of, IsEmpty, PlaysAt, StopsOn, PrintsLine, PrintsPart, OpensBy, StopsBy, TakesNext, StopsNext, FoundsBy, Founds, PlaysTo, GoesBehind, StopsBehind, RunsFrom, StopsFrom};
 ghost use Rattle.node_port.specs.declared.port.Standing.TheVariants.{Runs};
 
 use crate::commands::{read_command, says_founds};

@@ -1,4 +1,4 @@
-use Rattle.std.proofs.Common.{false, inr, subst}
+use Rattle.std.proofs.Common.{inr, subst}
 use Rattle.std.specs.Prelude.{◌⊎◌}
 use Rattle.std.specs.Io.KnownBytes.{Keeps}
 use Rattle.std.proofs.KnownBytes.{Keeps-refl}

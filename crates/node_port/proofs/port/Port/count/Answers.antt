@@ -1,4 +1,4 @@
-use Rattle.std.proofs.Common.{ℕ, List, [], ◌++◌, ap, refl, ◌∙◌, string_bytes}
+use Rattle.std.proofs.Common.{ℕ, [], ◌++◌, ap, refl, ◌∙◌, string_bytes}
 use Rattle.node_port.specs.Commands.{Follows}
 use Rattle.node_port.specs.Shown.{Counts, shown_line}
 use Rattle.node_port.specs.declared.commands.Command.TheVariants.{Steps}
