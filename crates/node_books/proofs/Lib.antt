@@ -1,6 +1,9 @@
+pub use Rattle.node_loop.proofs.Answers
+pub use Rattle.node_loop.proofs.Left
 pub mod Beginnings
 pub mod Onward
 pub mod Rising
 pub mod Adding
 pub mod Showing
 pub mod Owing
+pub mod Taking

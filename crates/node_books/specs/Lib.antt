@@ -1,3 +1,14 @@
+pub use Rattle.node_loop.specs.Answers
+pub use Rattle.node_loop.specs.Coming
+pub use Rattle.node_loop.specs.Editions
+pub use Rattle.node_loop.specs.Events
+pub use Rattle.node_loop.specs.Held
+pub use Rattle.node_loop.specs.Left
+pub use Rattle.node_loop.specs.NodeEventsSeen
+pub use Rattle.node_loop.specs.Openings
+pub use Rattle.node_loop.specs.Owing
+pub use Rattle.node_loop.specs.Sound
+pub use Rattle.node_loop.specs.Told
 pub mod Onward
 pub mod Moments
 pub mod Books

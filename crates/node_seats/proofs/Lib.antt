@@ -1,4 +1,6 @@
-pub use Rattle.shared_table.proofs.Showing
+pub use Rattle.shared_table.proofs.Onward
+pub use Rattle.shared_table.proofs.Taking
+pub use Rattle.shared_table.proofs.Going
 pub mod Holders
 pub mod Choosing
 mod Coming

@@ -15,9 +15,8 @@ use Rattle.node_seats.specs.declared.fault.SeatFault.{SeatFault}
 use Rattle.node_seats.specs.declared.fault.SeatFault.TheVariants.{NoSuchNode, NodeLeft, Closed, SeatsSpent, Step, Memory}
 use Rattle.node_seats.specs.Addresses.{Inbox}
 use Rattle.shared_table.specs.Readers.{Seen}
-use Rattle.shared_table.specs.Editions.{HasShown}
 use Rattle.node_seats.specs.Callers.{inbox_of, place_of, nodes_of, asked_by, name_of, ticket_of, seen_of, told_of, Learns}
-use Rattle.node_seats.specs.Replies.{IsToldTo}
+use Rattle.node_seats.specs.Replies.{IsToldTo, HasShown}
 use Rattle.node_seats.specs.Faults.{told_as}
 use Rattle.node_seats.specs.Fences.{granted_by}
 use Rattle.node_seats.specs.Seats.{Sitting, sitting, IsAnswered, with_entry, with_answer}

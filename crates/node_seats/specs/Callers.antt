@@ -1,5 +1,5 @@
 -- What contracts see of a caller, and of the hub that it shares.
-use Rattle.std.specs.Prelude.{ℕ, ◌+◌, ◌-◌, ◌^◌, ◌≡◌, ◌≤◌, ◌⊎◌, Option, Some, None, List, []}
+use Rattle.std.specs.Prelude.{ℕ, ◌+◌, ◌-◌, ◌^◌, ◌≡◌, ◌≤◌, ◌⊎◌, Option, Some, None, List}
 use Rattle.shared_table.specs.declared.Event.{Event}
 use Rattle.shared_table.specs.declared.Ticket.{Ticket}
 use Rattle.shared_table.specs.declared.Item.{Item}
@@ -18,9 +18,9 @@ use Rattle.node_seats.specs.Addresses.{Inbox}
 abbrev pub name_of : Caller → ℕ
 name_of c = c.node
 
--- the inbox into which it puts what it asks
+-- the inbox into which it puts what it asks, and the book of the table that it reads
 abbrev pub inbox_of : Caller → Inbox
-inbox_of c = record { node = c.node; room = c.line.room }
+inbox_of c = record { node = c.node; room = c.line.room; book = c.reader.seen.known.book }
 
 -- which seat's it is, and the slot of its replies
 abbrev pub place_of : Caller → Place
@@ -42,21 +42,17 @@ nodes_at h = h.nodes
 abbrev pub nodes_of : Caller → List ℕ
 nodes_of c = nodes_at c.hub.value
 
--- what it has seen of its node's table, and how much of the node's log it was told of
+-- what it knows of its node's moments, and how much of the node's log it was told of
 abbrev pub seen_of : Caller → Seen
-seen_of c = c.reader
+seen_of c = c.reader.seen
 
 -- up to which length of the node's log
 abbrev pub told_of : Caller → ℕ
-told_of c = c.reader.told
-
--- nothing was read yet, and nothing told
-abbrev pub unseen : Seen
-unseen = record { editions = []; told = 0 }
+told_of c = c.reader.seen.told
 
 -- it may be told of more, and reads nothing
 pub record Learns (s t : Seen) : Type 0 where
-  pub editions : t.editions ≡ s.editions
+  pub known : t.known ≡ s.known
   pub rises : s.told ≤ t.told
 
 -- the events that it has put into its node's inbox, the oldest first

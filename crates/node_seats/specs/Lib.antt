@@ -1,4 +1,9 @@
+pub use Rattle.shared_table.specs.Pages
+pub use Rattle.shared_table.specs.Books
+pub use Rattle.shared_table.specs.Moments
+pub use Rattle.shared_table.specs.Onward
 pub use Rattle.shared_table.specs.Publishing
+pub use Rattle.shared_table.specs.Readers
 pub mod Lines
 pub mod Addresses
 pub mod Faults

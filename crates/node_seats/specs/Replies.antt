@@ -32,6 +32,16 @@ pub record TellsNext (name : ℕ) (reply : TaskReply) (length : ℕ) : Type 0 wh
 abbrev pub IsTold : ℕ → TaskReply → ℕ → Type 0
 IsTold name reply length = ∥ TellsNext name reply length ∥₁
 
+-- the loop of this node came to where it shows what it last changed behind that length of its log
+pub record ShowsAt (name length : ℕ) : Type 0 where
+  pub node : Looping
+  pub came : IsLoopOf name node
+  pub long : node.owed.length ≡ length
+
+-- the node of this name has shown an edition of a log of this length
+abbrev pub HasShown : ℕ → ℕ → Type 0
+HasShown name length = ∥ ShowsAt name length ∥₁
+
 -- it told the owner of this ticket so
 abbrev pub IsToldTo : ℕ → Ticket → Result Effect TaskFault → ℕ → Type 0
 IsToldTo name ticket outcome length = IsTold name (record { ticket = ticket; outcome = outcome }) length

@@ -25,23 +25,21 @@ use Rattle.shared_table.specs.declared.TaskFault.{TaskFault}
 use Rattle.shared_table.specs.declared.TaskFault.TheVariants as task
 use Rattle.node_seats.specs.Addresses.{Inbox}
 use Rattle.shared_table.specs.declared.reader.Lookup.TheVariants.{Owner, Left as IsLeft}
-use Rattle.shared_table.specs.Editions.{HasShown}
-use Rattle.shared_table.specs.Rule.{StartsWith}
-use Rattle.shared_table.specs.Readers.{Seen, Finds}
-use Rattle.node_seats.specs.Callers.{name_of, place_of, nodes_of, asked_by, seen_of, unseen, Learns}
+use Rattle.shared_table.specs.Readers.{Seen, Finds, unseen}
+use Rattle.node_seats.specs.Callers.{name_of, place_of, nodes_of, asked_by, seen_of, Learns}
 use Rattle.node_seats.specs.Faults.{MayAsk}
 use Rattle.node_seats.specs.Fences.{HasLogged, granted_by}
-use Rattle.node_seats.specs.Replies.{IsToldTo}
+use Rattle.node_seats.specs.Replies.{IsToldTo, HasShown}
 
 -- what comes of a look-up in a node's table
 abbrev pub Looked : Result (Option Process) SeatFault → ℕ → Text → Seen → Seen → Type 0
 Looked (Ok owner) node x s t = Finds (Owner owner) node x s t
 Looked (Err NodeLeft) node x s t = Finds IsLeft node x s t
-Looked (Err Closed) node x s t = StartsWith t.editions s.editions × (t.told ≡ s.told)
+Looked (Err Closed) node x s t = t ≡ s
 Looked (Err fault) node x s t = ⊥
 
 -- a seat: its number, the slot of its replies, its node, the inbox of that, the nodes of its cluster, the events that it has asked its node
--- for, what it has seen of its node's table, what it was granted last, and its transcript, the oldest of each first
+-- for, the book of its node with the moments of it that it knows, what it was granted last, and its transcript, the oldest of each first
 pub record Sitting : Type 0 where
   pub seat : ℕ
   pub slot : ℕ
@@ -76,7 +74,7 @@ new_seat place nodes inbox = record {
   room = inbox.room;
   nodes = nodes;
   asked = [];
-  seen = unseen;
+  seen = unseen inbox.book;
   granted = None;
   entries = [];
 }
@@ -160,8 +158,9 @@ abbrev pub owner_reply : Option Process → Reply
 owner_reply (Some p) = Pid p
 owner_reply None = Undefined
 
--- What a look-up beside the node comes to: nothing is asked, and the transcript stays. It is the look-up in a table that the seat's node has
--- shown, behind no less of its log than the seat was told of or has read; the node has left where it has shown that
+-- What a look-up beside the node comes to: nothing is asked, and the transcript stays. It is the look-up in the table at a moment of the
+-- seat's own node, the last that the seat then knows, behind no less of the node's log than the seat was told of or has read; the node has
+-- left where it has shown that
 pub record LooksUp (name : Text) (result : Result (Option Process) SeatFault) (s t : Sitting) : Type 0 where
   pub kept : t ≡ record s { seen = t.seen }
   pub finds : Looked result s.node name s.seen t.seen

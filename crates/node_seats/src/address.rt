@@ -7,16 +7,19 @@ use crate::bell::{Bell, Rest};
 use crate::line::Line;
 use crate::parcel::Parcel;
 use link::{INBOX_ROOM, Mailbox, Root, compare, open};
+use shared_table::Token;
 use std::alloc::{AllocError, Global};
 use std::marker::Model;
 use term::Node;
 
-/// Where a node's inbox is reached: what makes the lines to it. Contracts see whose it is, how many were made, and the inbox.
+/// Where a node's inbox is reached: what makes the lines to it. Contracts see whose it is, how many were made, the inbox, and the book of the
+/// node.
 #[derive(Drop)]
 pub struct Address<L: Drop> {
     node: Node,
     root: Root<Parcel<L>>,
     bell: Bell,
+    book: Token,
 }
 
 /// An inbox that was opened: its address, its receiver's end, and the rest of the thread that is to take from it.
@@ -33,23 +36,29 @@ impl<L: Drop> Model for Address<L> {
 
     ghost Value = { Reached L };
 
-    ghost view = { λ a. record { node = a.node; lines = made_of a.root; room = root_room a.root } };
+    ghost view = { λ a. record { node = a.node; lines = made_of a.root; room = root_room a.root; book = a.book.book } };
 }
 
-/// Opens the inbox of a node, whose thread yields so often at most before it sleeps.
+/// Opens the inbox of a node, whose moments stand in this book, and whose thread yields so often at most before it sleeps.
 pub(crate) fn open_inbox<L: Drop>(
     alloc: Global,
     node: Node,
+    book: Token,
     yields: u32,
 ) -> Result<Entrance<L>, AllocError>
-    ensures address { IfOk result (λ opened. opened.address ≡ record { node = node; lines = 0; room = mailbox_room opened.mailbox }) }
+    ensures address { IfOk result (λ opened. opened.address ≡ record { node = node; lines = 0; room = mailbox_room opened.mailbox; book = book.book }) }
     ensures empty { IfOk result (λ opened. taken opened.mailbox ≡ []) }
     ensures rest { IfOk result (λ opened. opened.rest.yields ≡ yields) }
 {
     let bell = Bell::new(alloc)?;
     let rest = bell.rest(yields)?;
     let (root, mailbox) = open::<Parcel<L>>(alloc, INBOX_ROOM)?;
-    let address = Address { node, root, bell };
+    let address = Address {
+        node,
+        root,
+        bell,
+        book,
+    };
     Ok(Entrance {
         address,
         mailbox,

@@ -1,13 +1,13 @@
 //! How a thread asks a node's thread.
 ghost use Rattle.std.specs.Prelude.{◌≡◌, ◌<◌, ◌≤◌, ◌+◌, ◌^◌, ◌++◌, ◌∷◌, ◌⊎◌, [], length, max, true, false, IfOk, OnOk, OnErr, IfErr, IfSome, Ok, Err};
-ghost use Rattle.shared_table.specs.Editions.{HasShown};
+ghost use Rattle.shared_table.specs.Readers.{Finds, unseen};
 ghost use Rattle.shared_table.specs.Events.{knows_contact as knows};
 ghost use Rattle.shared_table.specs.declared.Event.TheVariants.{Call as Calls};
 ghost use Rattle.node_seats.specs.Addresses.{inbox_at};
 ghost use Rattle.node_seats.specs.Lines.{event_in, events_on};
 ghost use Rattle.node_seats.specs.declared.fault.SeatFault.TheVariants.{NoSuchNode};
 ghost use Rattle.node_seats.specs.Faults.{told_as, IsAskRefused, MayAsk, IsUnmade, unmade};
-ghost use Rattle.node_seats.specs.Replies.{IsToldTo, IsFaultTold};
+ghost use Rattle.node_seats.specs.Replies.{IsToldTo, IsFaultTold, HasShown};
 
 use crate::address::Address;
 use crate::bell::Rest;
@@ -18,15 +18,17 @@ use crate::line::Line;
 use crate::place::Place;
 use crate::standing::Standing;
 use crate::told::NodeStatus;
-use shared_table::{Call, Effect, Event, Item, Lookup, TableReader, Task, TaskFault, Ticket};
+use shared_table::{
+    Call, Effect, Event, Item, Lookup, TableReader, Task, TaskFault, Ticket, Token,
+};
 use std::alloc::{AllocError, Global};
 use std::sync::{Arc, Wait};
 use std::time::Clock;
 use term::{Name, Node, NodeSet, Pid};
 
 /// Asks the thread of one node, one event after another, and waits for each reply; and looks names up in the node's table. Contracts see
-/// the node, its place among the seats, the nodes of the cluster, the events that it has put into the node's inbox, and what it has seen of
-/// the table.
+/// the node, its place among the seats, the nodes of the cluster, the events that it has put into the node's inbox, and the book of the node
+/// with the moments of it that it knows.
 #[derive(Drop)]
 pub struct Caller {
     /// Which seat's it is, or which of the cluster's own, and the slot of its replies.
@@ -40,7 +42,8 @@ pub struct Caller {
     /// It was told of a length only behind which the node had shown its table.
     reader: TableReader,
     rest: Rest,
-    ghost shown: { HasShown node reader.told },
+    ghost shown: { HasShown node reader.seen.told },
+    ghost own: { reader.node ≡ node },
     ghost counted: { next ≡ length (events_on line) },
 }
 
@@ -66,32 +69,35 @@ fn unmade(cause: Option<SeatFault>) -> SeatFault
 }
 
 impl Caller {
-    ghost use Rattle.node_seats.specs.Callers.{name_of, inbox_of, place_of, nodes_of, nodes_at, asked_by, seen_of, told_of, unseen, ticket_of, task_for, Numbers, Puts, PutsNothing, Offers, IsEnd, MayPut, Learns};
+    ghost use Rattle.node_seats.specs.Callers.{name_of, inbox_of, place_of, nodes_of, nodes_at, asked_by, seen_of, told_of, ticket_of, task_for, Numbers, Puts, PutsNothing, Offers, IsEnd, MayPut, Learns};
     ghost use Rattle.node_seats.specs.Seats.{Looked};
 
-    /// One that asks the node of this address, which stands so, and finds its replies in the slot of this place.
+    /// One that asks the node of this address, which stands so, reads its table by this reader, and finds its replies in the slot of this
+    /// place.
     pub(crate) fn new(
         hub: &Arc<Hub, Global>,
         standing: &Arc<Standing, Global>,
         address: &mut Address<Item>,
+        reader: TableReader,
         place: Place,
         yields: u32,
     ) -> Result<Self, AllocError>
-        requires { place.slot < SLOTS }
+        requires slot { place.slot < SLOTS }
+        requires reader { reader ≡ record { node = address.old.node; seen = unseen address.old.book } }
         ensures place { IfOk result (λ caller. place_of caller ≡ place) }
         ensures node { IfOk result (λ caller. name_of caller ≡ address.old.node) }
         ensures nodes { IfOk result (λ caller. nodes_of caller ≡ nodes_at hub.now.value) }
         ensures unasked { IfOk result (λ caller. asked_by caller ≡ []) }
-        ensures unread { IfOk result (λ caller. seen_of caller ≡ unseen) }
+        ensures unread { IfOk result (λ caller. seen_of caller ≡ unseen address.old.book) }
         ensures address { OnOk result (address.new ≡ record address.old { lines = address.old.lines + 1 }) }
         ensures same { address.new.node ≡ address.old.node }
         ensures inbox { IfOk result (λ caller. inbox_of caller ≡ inbox_at address.old) }
         ensures room { address.new.room ≡ address.old.room }
+        ensures book { address.new.book ≡ address.old.book }
     {
         let rest = hub.rest(place.slot, yields)?;
         let hub = Arc::try_clone(hub)?;
         let standing = Arc::try_clone(standing)?;
-        let reader = standing.reader()?;
         let line = address.line()?;
         Ok(Caller {
             place,
@@ -105,26 +111,31 @@ impl Caller {
         })
     }
 
-    /// One more that asks the same node, and finds its replies in this place's slot of this hub.
+    /// One more that asks the same node, at its address, and finds its replies in this place's slot of this hub. `AllocError`: memory was
+    /// refused, or each reader of the node's table is lent.
     pub fn another(
-        &self,
+        &mut self,
         hub: &Arc<Hub, Global>,
         address: &mut Address<Item>,
         place: Place,
         yields: u32,
     ) -> Result<Self, AllocError>
-        requires { place.slot < SLOTS }
+        requires slot { place.slot < SLOTS }
+        requires own { inbox_of self.old ≡ inbox_at address.old }
+        ensures own { inbox_of self.new ≡ inbox_of self.old }
         ensures place { IfOk result (λ caller. place_of caller ≡ place) }
         ensures node { IfOk result (λ caller. name_of caller ≡ address.old.node) }
         ensures nodes { IfOk result (λ caller. nodes_of caller ≡ nodes_at hub.now.value) }
         ensures unasked { IfOk result (λ caller. asked_by caller ≡ []) }
-        ensures unread { IfOk result (λ caller. seen_of caller ≡ unseen) }
+        ensures unread { IfOk result (λ caller. seen_of caller ≡ unseen address.old.book) }
         ensures address { OnOk result (address.new ≡ record address.old { lines = address.old.lines + 1 }) }
         ensures same { address.new.node ≡ address.old.node }
         ensures inbox { IfOk result (λ caller. inbox_of caller ≡ inbox_at address.old) }
         ensures room { address.new.room ≡ address.old.room }
+        ensures book { address.new.book ≡ address.old.book }
     {
-        Caller::new(hub, &self.standing, address, place, yields)
+        let reader = self.reader.another()?;
+        Caller::new(hub, &self.standing, address, reader, place, yields)
     }
 
     /// The node that it asks.
@@ -146,6 +157,14 @@ impl Caller {
         ensures { result ≡ place_of self.now }
     {
         self.place
+    }
+
+    /// The moments of its node that it knows.
+    pub(crate) fn token(&self) -> Token
+        ensures book { result.book ≡ (seen_of self.now).known.book }
+        ensures log { result.log ≡ (seen_of self.now).known.log }
+    {
+        self.reader.token()
     }
 
     /// How long the log of its node was when it was told of it last, or has read.
@@ -236,13 +255,23 @@ impl Caller {
         if self.hub.is_over() {
             return Err(SeatFault::Closed);
         }
-        match self.reader.whereis(&self.node, name) {
+        match self.read(name) {
             Lookup::Owner(owner) => Ok(owner),
             Lookup::Left => Err(SeatFault::NodeLeft),
-            // No thread tells of what it hasn't published, and the reader is at the node's own table: so that is never behind what was
-            // told, nor another's.
-            Lookup::Behind | Lookup::Stranger | Lookup::Gone => Err(SeatFault::Closed),
+            // No thread tells of what it hasn't published: so the table is never behind what was told.
+            Lookup::Behind | Lookup::Gone => Err(SeatFault::Closed),
         }
+    }
+
+    /// Reads a name in the node's table.
+    fn read(&mut self, name: &Name) -> Lookup
+        ensures place { place_of self.new ≡ place_of self.old }
+        ensures node { name_of self.new ≡ name_of self.old }
+        ensures nodes { nodes_of self.new ≡ nodes_of self.old }
+        ensures line { self.new.line ≡ self.old.line }
+        ensures finds { Finds result (name_of self.old) name.now (seen_of self.old) (seen_of self.new) }
+    {
+        self.reader.whereis(name)
     }
 
     /// How the node stands, as its thread told last. It asks the node for nothing, and waits for nobody. `NodeLeft`: the node has left.

@@ -3,8 +3,8 @@ ghost use Rattle.std.specs.Prelude.{◌≡◌, []};
 ghost use Rattle.shared_table.specs.Held.{written};
 ghost use Rattle.shared_table.specs.Coming.{IsLoopOf};
 ghost use Rattle.shared_table.specs.Sound.{LeavesSound};
+ghost use Rattle.shared_table.specs.Onward.{ComesFrom};
 ghost use Rattle.shared_table.specs.Owing.{shown_by};
-ghost use Rattle.shared_table.specs.Publishing.{current};
 ghost use Rattle.node_seats.specs.Stops.{is_alone, ends_alone};
 
 use crate::bell::Rest;
@@ -92,8 +92,9 @@ impl Host {
         publisher: &Publisher,
     )
         requires came { IsLoopOf node.old.log.node node.old }
-        requires shown { current publisher.now ≡ shown_by node.old }
+        requires shown { publisher.now.shown ≡ shown_by node.old }
         ensures came { IsLoopOf node.old.log.node node.new }
+        ensures comes { ComesFrom node.old node.new }
         ensures all { node.new ≡ record node.old { desk = record node.old.desk { replies = [] } } }
     {
         for _ in rt.forever() {

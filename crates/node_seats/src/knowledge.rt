@@ -1,9 +1,9 @@
 //! What is known of a node, at whichever of its seats.
 ghost use Rattle.std.specs.Prelude.{◌≡◌};
 ghost use Rattle.std.specs.Option.{ForSome};
-ghost use Rattle.shared_table.specs.Editions.{HasShown};
 ghost use Rattle.node_seats.specs.Fences.{HasGranted};
 ghost use Rattle.node_seats.specs.Knowing.{nothing_known};
+ghost use Rattle.node_seats.specs.Replies.{HasShown};
 
 use std::marker::Model;
 use term::Node;

@@ -1,10 +1,9 @@
 //! Replies on their way from a node's thread to a caller.
 ghost use Rattle.std.specs.Prelude.{◌≡◌, [], IfSome, MatchOption};
 ghost use Rattle.shared_table.specs.Coming.{IsLoopOf};
+ghost use Rattle.shared_table.specs.Onward.{ComesFrom};
 ghost use Rattle.shared_table.specs.Owing.{shown_by};
-ghost use Rattle.shared_table.specs.Editions.{HasShown};
-ghost use Rattle.shared_table.specs.Publishing.{current};
-ghost use Rattle.node_seats.specs.Replies.{IsTold, IsToldTo, is_late};
+ghost use Rattle.node_seats.specs.Replies.{IsTold, IsToldTo, HasShown, is_late};
 
 use name_table::Names;
 use shared_table::{Effect, NodeLoop, Publisher, Record, TaskFault, TaskReply, Ticket};
@@ -30,11 +29,12 @@ impl Laid {
         publisher: &Publisher,
     ) -> Option<Self>
         requires came { IsLoopOf node.old.log.node node.old }
-        requires shown { current publisher.now ≡ shown_by node.old }
+        requires shown { publisher.now.shown ≡ shown_by node.old }
         ensures came { IsLoopOf node.old.log.node node.new }
+        ensures comes { ComesFrom node.old node.new }
         ensures rest { node.new ≡ record node.old { desk = record node.old.desk { replies = node.new.desk.replies } } }
         ensures none { MatchOption result (node.new.desk.replies ≡ []) (λ _. Unit {0}) }
-        ensures length { IfSome result (λ laid. laid.length ≡ (current publisher.now).length) }
+        ensures length { IfSome result (λ laid. laid.length ≡ publisher.now.shown.length) }
     {
         let length = publisher.shown_length();
         let name = node.node().copy();

@@ -41,7 +41,8 @@ pub use parcel::Parcel;
 pub use place::{MOST_SEATS, Place, SEAT_NUMBERS};
 pub use seat::Seat;
 pub use shared_table::{
-    Call, Effect, KeptPublisher, NameList, Nodes, Notice, NoticeList, Numbers, Publisher,
-    ReaderFactory, Reply, Retries, StepFault, Transcript,
+    Call, Effect, IdleReaders, KeptPublisher, LastTable, Moment, NameList, Nodes, Notice,
+    NoticeList, Numbers, Past, Publisher, Reply, Retries, ScribeFault, StepFault, Token,
+    Transcript,
 };
 pub use told::NodeStatus;

@@ -1,6 +1,7 @@
 //! Nodes that were opened: what their seats and their threads are made from.
-ghost use Rattle.std.specs.Prelude.{◌≡◌, ◌<◌, [], IfOk};
+ghost use Rattle.std.specs.Prelude.{◌≡◌, ◌<◌, ◌+◌, [], IfOk, length};
 ghost use Rattle.link.specs.Mailboxes.{taken, mailbox_room};
+ghost use Rattle.shared_table.specs.Moments.{shown_at};
 ghost use Rattle.node_seats.specs.Addresses.{inbox_at};
 ghost use Rattle.node_seats.specs.Callers.{name_of, inbox_of, place_of, own_place, nodes_of, nodes_at, asked_by};
 
@@ -12,7 +13,7 @@ use crate::parcel::Parcel;
 use crate::place::Place;
 use crate::standing::Standing;
 use link::Mailbox;
-use shared_table::{Item, ReaderFactory};
+use shared_table::{IdleReaders, Item, TableReader};
 use std::alloc::{AllocError, Global};
 use std::sync::Arc;
 use term::Node;
@@ -30,18 +31,20 @@ pub struct Opened {
     pub host: Host,
 }
 
-/// Opens a node, the one with this index among its cluster's, whose table is read by these. Its thread, and its cluster's caller, yield so
-/// often at most before they sleep.
+/// Opens a node, the one with this index among its cluster's, whose table is read by these, of which its cluster's caller takes one. Its
+/// thread, and that caller, yield so often at most before they sleep.
 pub fn open_node(
     alloc: Global,
     hub: &Arc<Hub, Global>,
     node: Node,
     index: u32,
     yields: u32,
-    readers: ReaderFactory,
+    readers: IdleReaders,
 ) -> Result<Opened, AllocError>
-    requires { index < 8 }
-    ensures address { IfOk result (λ opened. opened.address ≡ record { node = node; lines = 1; room = mailbox_room opened.mailbox }) }
+    requires index { index < 8 }
+    requires known { 0 < length readers.log }
+    requires own { (shown_at readers.log).node ≡ node }
+    ensures address { IfOk result (λ opened. opened.address ≡ record { node = node; lines = 1; room = mailbox_room opened.mailbox; book = readers.book }) }
     ensures place { IfOk result (λ opened. place_of opened.caller ≡ own_place index) }
     ensures node { IfOk result (λ opened. name_of opened.caller ≡ node) }
     ensures inbox { IfOk result (λ opened. inbox_of opened.caller ≡ inbox_at opened.address) }
@@ -51,14 +54,23 @@ pub fn open_node(
     ensures host { IfOk result (λ opened. opened.host ≡ yields) }
 {
     // What is large comes last: the check follows each way out with all that was made before it.
-    let standing = Arc::new(alloc, Standing::new(node.copy(), readers))?;
+    let standing = Arc::new(alloc, Standing::new(node.copy()))?;
     let own = Arc::try_clone(hub)?;
+    let book = readers.token();
+    let reader = TableReader::lent(readers)?;
     let Entrance {
         mut address,
         mailbox,
         rest,
-    } = open_inbox(alloc, node, yields)?;
-    let caller = Caller::new(hub, &standing, &mut address, Place::own(index), yields)?;
+    } = open_inbox(alloc, node, book, yields)?;
+    let caller = Caller::new(
+        hub,
+        &standing,
+        &mut address,
+        reader,
+        Place::own(index),
+        yields,
+    )?;
     let host = Host::new(own, standing, rest);
     Ok(Opened {
         address,

@@ -21,7 +21,7 @@ use crate::fences::{fence_of, granted_after, sets_lock};
 use crate::knowledge::Knowledge;
 use crate::notes::{KeptNotes, Notes};
 use crate::told::NodeStatus;
-use shared_table::{Call, Event, Reply, SeatEntry, Transcript, WorldEvent};
+use shared_table::{Call, Event, Reply, SeatEntry, Token, Transcript, WorldEvent};
 use std::alloc::{AllocError, Global};
 use std::marker::Model;
 use std::sync::Wait;
@@ -29,8 +29,8 @@ use std::time::Clock;
 use term::{Name, Node, Pid};
 
 /// One caller's place at a node, with the transcript of what it was answered. It may go to another thread. Contracts see its
-/// number and its slot, its node and the inbox of that, the nodes of its cluster, the events that it has asked the node for, what it
-/// has seen of the node's table, by which step it was granted a lock last, and its transcript, whether that is kept or not.
+/// number and its slot, its node and the inbox of that, the nodes of its cluster, the events that it has asked the node for, the
+/// moments of the node that it knows, by which step it was granted a lock last, and its transcript, whether that is kept or not.
 #[derive(Drop)]
 pub struct Seat<T: Notes = KeptNotes> {
     caller: Caller,
@@ -165,6 +165,15 @@ impl<T: Notes> Seat<T> {
         ensures { LooksUp name.now result self.old self.new }
     {
         self.caller.look_up(name)
+    }
+
+    /// The moments of its node that it knows, of the node's book: the last of them shows what was read last, and there are none before the
+    /// first look-up. It has no bytes. Where the cluster is over, the past of the node's book covers it (`Past::covers`).
+    pub fn token(&self) -> Token
+        ensures book { result.book ≡ self.now.seen.known.book }
+        ensures log { result.log ≡ self.now.seen.known.log }
+    {
+        self.caller.token()
     }
 
     /// How its node stands, as the node's thread told last: behind every step whose reply this seat was given, or a later one. It asks the

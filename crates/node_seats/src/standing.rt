@@ -1,13 +1,13 @@
 //! How the thread of a node stands, as others read it.
-ghost use Rattle.std.specs.Prelude.{◌≡◌, [], true, IfOk};
+ghost use Rattle.std.specs.Prelude.{◌≡◌, true};
 ghost use Rattle.shared_table.specs.Coming.{IsLoopOf};
 ghost use Rattle.node_seats.specs.Departures.{IsGone};
 
 use crate::told::{NodeStatus, Told};
 use crossbeam_utils::CachePadded;
 use name_table::Names;
-use shared_table::{NodeLoop, ReaderFactory, Record, TableReader};
-use std::alloc::{AllocError, Global};
+use shared_table::{NodeLoop, Record};
+use std::alloc::Global;
 use std::sync::OnceLock;
 use std::sync::atomic::{AtomicBool, Ordering};
 use term::{Node, NodeSet};
@@ -19,11 +19,10 @@ struct Departure {
     ghost gone: { IsGone node },
 }
 
-/// What the thread of a node has told of itself, and by what its table is read.
+/// What the thread of a node has told of itself.
 #[derive(Drop)]
 pub(crate) struct Standing {
     node: Node,
-    readers: ReaderFactory,
     left: OnceLock<Departure>,
     ended: AtomicBool,
     /// It is written behind each step. Callers that wait read what stands above, so it lies apart from that.
@@ -31,24 +30,16 @@ pub(crate) struct Standing {
 }
 
 impl Standing {
-    /// That of this node, which is yet to start, and whose table is read by these.
-    pub(crate) fn new(node: Node, readers: ReaderFactory) -> Self
+    /// That of this node, which is yet to start.
+    pub(crate) fn new(node: Node) -> Self
         ensures { result.node ≡ node }
     {
         Standing {
             node,
-            readers,
             left: OnceLock::new(),
             ended: AtomicBool::new(false),
             told: CachePadded::new(Told::new()),
         }
-    }
-
-    /// A reader of the node's table.
-    pub(crate) fn reader(&self) -> Result<TableReader, AllocError>
-        ensures { IfOk result (λ reader. reader ≡ record { editions = []; told = 0 }) }
-    {
-        self.readers.reader()
     }
 
     /// Tells how the node stands, one of a cluster of these nodes.

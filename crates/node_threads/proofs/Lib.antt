@@ -11,6 +11,7 @@ mod Dealing
 mod Turns
 pub mod Opening
 mod Soundness
+mod Pasts
 mod Starting
 mod Connecting
 mod Seats

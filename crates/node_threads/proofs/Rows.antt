@@ -10,7 +10,8 @@ use Rattle.replay.proofs.Listed.{known_place, no_place}
 use Rattle.node_seats.specs.declared.caller.Caller.{Caller}
 use Rattle.node_seats.specs.declared.place.Place.{Place}
 use Rattle.node_seats.specs.Addresses.{Inbox}
-use Rattle.node_seats.specs.Callers.{place_of, inbox_of, nodes_of, asked_by, seen_of, unseen}
+use Rattle.node_seats.specs.Callers.{place_of, inbox_of, nodes_of, asked_by, seen_of}
+use Rattle.node_seats.specs.Readers.{unseen}
 use Rattle.node_seats.specs.Seats.{sitting, new_seat, first_at}
 use Rattle.node_seats.proofs.Choosing.{find_mapped, first_becomes}
 use Rattle.node_threads.specs.Clusters.{Crewed, nodes_in, next_seats}
@@ -47,7 +48,7 @@ crew_kept cluster lone ws i m n read is crew =
 
 -- the seat that a caller becomes which asked for nothing and read nothing yet
 pub new_sitting : (caller : Caller) (place : Place) (nodes : List ℕ) (inbox : Inbox) → place_of caller ≡ place → inbox_of caller ≡ inbox
-    → nodes_of caller ≡ nodes → asked_by caller ≡ [] → seen_of caller ≡ unseen → sitting caller [] ≡ new_seat place nodes inbox
+    → nodes_of caller ≡ nodes → asked_by caller ≡ [] → seen_of caller ≡ unseen inbox.book → sitting caller [] ≡ new_seat place nodes inbox
 new_sitting caller place nodes inbox at into world asked seen = λ j. record {
   seat = (at j).seat;
   slot = (at j).slot;
@@ -71,7 +72,7 @@ module _ (n : ℕ) (inside crew : Crewed) (i : ℕ) (at : position (λ w. name_o
 
   -- what its caller becomes is the next seat there
   pub seat_is : (caller : Caller) → place_of caller ≡ next_place inside.seating → inbox_of caller ≡ m.inbox
-      → nodes_of caller ≡ inside.world → asked_by caller ≡ [] → seen_of caller ≡ unseen → first_at n (next_seats crew) ≡ Some (sitting caller [])
+      → nodes_of caller ≡ inside.world → asked_by caller ≡ [] → seen_of caller ≡ unseen m.inbox.book → first_at n (next_seats crew) ≡ Some (sitting caller [])
   seat_is caller place inbox nodes asked seen = ap (λ (k : Crewed). first_at n (next_seats k)) (sym view)
       ∙ find_mapped (new_seat (next_place inside.seating) inside.world) (λ s. s.node == n) (inboxes inside.crew)
       ∙ ap (option_map (new_seat (next_place inside.seating) inside.world)) there

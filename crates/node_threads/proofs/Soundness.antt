@@ -1,5 +1,7 @@
 -- A node's loop over its end stays sound, turn by turn, and its thread gives back what tells of it.
-use Rattle.std.proofs.Common.{true, false, ◌≡◌, inl, inr, List, [], map, Ok, Err, is_ok, refl, sym, ap, subst, ◌∙◌}
+use Rattle.std.proofs.Common.{true, false, ◌≡◌, inl, inr, Option, List, [], ◌∷◌, ◌++◌, map, Ok, Err, is_ok, refl, sym, ap, subst, ◌∙◌}
+use Rattle.std.specs.Prelude.{Result, IfOk}
+use Rattle.std.specs.Result.{result_ok}
 use Rattle.protocol_model.specs.World.{Opening}
 use Rattle.link.specs.declared.mailbox.Mailbox.{Mailbox}
 use Rattle.link.specs.Mailboxes.{taken, mailbox_room}
@@ -12,6 +14,9 @@ use Rattle.node_loop.specs.Sound.{IsSound, EndsSound, Tells, LeavesSound}
 use Rattle.node_loop.proofs.Standing.{besides}
 use Rattle.node_seats.specs.declared.parcel.Parcel.{Parcel}
 use Rattle.node_seats.specs.Lines.{Sent}
+use Rattle.node_seats.specs.Pages.{Book}
+use Rattle.node_seats.specs.Books.{Known}
+use Rattle.node_seats.specs.Moments.{moment}
 use Rattle.node_seats.specs.declared.host.Stop.{Stop}
 use Rattle.node_seats.specs.Stops.{ends_alone}
 use Rattle.replay.specs.Ends.{End}
@@ -23,8 +28,9 @@ use Rattle.node_threads.specs.Ends.{are_inside, leads_inside, fixed}
 use Rattle.node_threads.specs.Dealings.{sent_to, taken_from, dealt_of, dealt_by}
 use Rattle.node_threads.specs.Soundness.{IsSoundAt, StaysSound, LastsSound, IsBesides}
 use Rattle.node_threads.specs.Stops.{StopsSo}
-use Rattle.node_threads.specs.Ended.{IsEndOf}
+use Rattle.node_threads.specs.Ended.{IsLeftBy, IsEndOf, IsOver}
 use Rattle.node_threads.proofs.Lines.{receivers_unused}
+use Rattle.node_threads.proofs.Pasts.{past_of}
 
 -- what is shown and handed out changes nothing of it
 sound_besides : (o : Opening) (b c : Looping) (d : Dealt) → IsBesides b c → IsSound o b d → IsSound o c d
@@ -85,20 +91,24 @@ module _ (a : Looping) (lines : List (Sent Item)) (mailbox : Mailbox (Parcel Ite
     taken = λ f. taken_from f ((sym took ∙ ap (λ (ls : List (Sent Item)). letters_of (receivers ls) (taken box)) (sym row)) j);
   }
 
-  pub gives_back : IsEndOf a lines mailbox e rows box
-  gives_back = record {
-    left = record {
-      loop = b;
-      came = came;
-      node = ap (λ w. w.node) log ∙ node;
-      log = log;
-      table = table;
-      first = a;
-      began = began;
-      stop = stop;
-      stopped = stopped;
-      alone = alone;
-    };
+  -- what the loop left behind
+  abbrev left_behind : IsLeftBy a.log.node e
+  left_behind = record {
+    loop = b;
+    came = came;
+    node = ap (λ w. w.node) log ∙ node;
+    log = log;
+    table = table;
+    first = a;
+    began = began;
+    stop = stop;
+    stopped = stopped;
+    alone = alone;
+  }
+
+  is_end : IsEndOf a lines mailbox e rows box
+  is_end = record {
+    left = left_behind;
     first = refl;
     kept = ap (map unused) row ∙ t_lines;
     room = room ∙ ap mailbox_room t_first;
@@ -112,3 +122,12 @@ module _ (a : Looping) (lines : List (Sent Item)) (mailbox : Mailbox (Parcel Ite
         ap (leads_inside o) first ∙ inside,
         subst (λ (x : Traffic). IsSound o a (dealt_of x)) (sym first) begun,
       )
+
+  -- with the book, where it was sealed with that loop
+  pub gives_back : {F : Type 0} (known : Known) (book : Book) → known.book ≡ book → (sealed : Result Known F)
+      → IfOk sealed (λ past. past ≡ record known { log = known.log ++ moment true b ∷ [] }) → (o : Option Known) → o ≡ result_ok sealed
+      → IsOver a lines mailbox book e rows box o
+  gives_back known book own sealed ends o ok = record {
+    end = is_end;
+    past_is = past_of a.log.node e left_behind known book own sealed ends o ok;
+  }

@@ -1,11 +1,16 @@
 -- Nodes as their threads start, and what those give back.
-use Rattle.std.proofs.Common.{ℕ, ◌≡◌, Bool, true, false, List, [], ◌∷◌, refl, le_refl, ap, sym, subst, ◌∙◌}
+use Rattle.std.proofs.Common.{ℕ, ◌≡◌, Bool, true, false, List, [], ◌∷◌, refl, inl, le_refl, ap, sym, subst, ◌∙◌}
 use Rattle.std.specs.Prelude.{if◌then◌else◌}
 use Rattle.term.specs.NodeSets.{set_of}
 use Rattle.node_loop.specs.NodeCoreHeld.{Held, fresh}
 use Rattle.node_loop.specs.Openings.{opening_core}
 use Rattle.node_loop.specs.Coming.{begun}
-use Rattle.node_seats.specs.Publishing.{Progress}
+use Rattle.node_loop.specs.Editions.{opening}
+use Rattle.node_loop.specs.Owing.{shown_by, Owes}
+use Rattle.node_seats.specs.declared.Moment.{Moment}
+use Rattle.node_seats.specs.Moments.{moment, shown_at, Follows}
+use Rattle.node_seats.specs.Publishing.{Progress, Publishes}
+use Rattle.node_seats.proofs.Onward.{comes_from_itself}
 use Rattle.link.specs.declared.mailbox.Mailbox.{Mailbox}
 use Rattle.link.specs.Mailboxes.{taken}
 use Rattle.node_loop.specs.declared.item.Item.{Item}
@@ -20,32 +25,29 @@ use Rattle.node_seats.specs.Addresses.{Inbox}
 use Rattle.node_threads.specs.Wires.{Wired}
 use Rattle.node_threads.specs.Ends.{are_inside}
 use Rattle.node_threads.specs.Dealings.{dealt_by}
-use Rattle.node_threads.specs.Starts.{IsAtStart, Publishes}
+use Rattle.node_threads.specs.Starts.{IsAtStart}
 use Rattle.node_threads.specs.Drawing.{Drawn}
 use Rattle.node_threads.specs.Ended.{IsEndOf, Returns}
 use Rattle.node_threads.proofs.Dealing.{deals_nothing}
 use Rattle.node_threads.proofs.Stopping.{named}
 
--- nothing is owed to the readers of a node that took no step
-pub publishes_first : (nodes cluster : List ℕ) (a : Looping) (p : Progress) (name stamp : ℕ) (core : Held) → a ≡ begun stamp core
-    → core ≡ opening_core nodes cluster name → core.name ≡ name → p ≡ record { node = name; editions = []; waiting = []; length = 0 }
-    → Publishes a p
-publishes_first nodes cluster a p name stamp core is opens named first =
-    subst (λ (q : Progress). Publishes a q) (sym first) (subst (λ (x : Looping). Publishes x none) (sym is) (
-      sym named,
-      record {
-        world = refl;
-        length = le_refl 0;
-        leads = λ j. record { node = sym named j; table = sym (ap (λ (h : Held). h.table) opens ∙ empty (set_of cluster name)) j; length = 0; left = false };
-      },
-    ))
+-- what readers are shown of a node that took no step
+pub opens_so : (nodes cluster : List ℕ) (a : Looping) (name stamp : ℕ) (core : Held) → a ≡ begun stamp core → core ≡ opening_core nodes cluster name
+    → shown_by a ≡ opening a.log.node
+opens_so nodes cluster a name stamp core is opens = subst (λ (x : Looping). shown_by x ≡ opening x.log.node) (sym is)
+    (λ j. record { node = core.name; table = (ap (λ (h : Held). h.table) opens ∙ empty (set_of cluster name)) j; length = 0; left = false })
   where
-    none : Progress
-    none = record { node = name; editions = []; waiting = []; length = 0 }
-
     empty : (b : Bool) → (if b then fresh name nodes cluster true else fresh name nodes (name ∷ []) false).table ≡ []
     empty true = refl
     empty false = refl
+
+-- nothing is owed to them
+pub publishes_first : (a : Looping) (p : Progress) (stamp : ℕ) (core : Held) → a ≡ begun stamp core → p.known.log ≡ moment false a ∷ []
+    → Publishes a p
+publishes_first a p stamp core is first = subst (λ (ms : List Moment). Follows ms a × Owes a (shown_at ms)) (sym first) (
+  (comes_from_itself a, inl refl),
+  subst (λ (x : Looping). Owes x (shown_by x)) (sym is) (record { world = refl; length = le_refl 0; leads = refl }),
+)
 
 -- by other names of the same
 pub at_start : (inbox : Inbox) (a b : Looping) (lines rows : List (Sent Item)) (m n : Mailbox (Parcel Item)) → b ≡ a → rows ≡ lines → n ≡ m

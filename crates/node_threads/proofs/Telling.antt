@@ -1,6 +1,7 @@
 -- What ends are told of, one after the other, and the run that they have.
-use Rattle.std.proofs.Common.{ℕ, zero, suc, Bool, true, false, ◌≡◌, ◌==◌, ◌+◌, ◌<◌, ◌≤◌, inl, inr, List, [], ◌∷◌, ◌++◌, map, length, refl, sym, ap, ◌∙◌, arith}
-use Rattle.std.specs.Prelude.{if◌then◌else◌, ◌||◌, Result, Ok, Err, IfOk, IfErr}
+use Rattle.std.proofs.Common.{ℕ, zero, suc, Bool, true, false, ◌≡◌, ◌==◌, ◌+◌, ◌<◌, ◌≤◌, inl, inr, List, [], ◌∷◌, ◌++◌, map, length, Vec, refl, sym, ap, subst, ◌∙◌, arith}
+use Rattle.std.specs.Prelude.{if◌then◌else◌, ◌||◌, Result, Ok, Err, IfOk, IfErr, MatchResult}
+use Rattle.std.specs.declared.alloc.Global.{Global}
 use Rattle.std.proofs.Math.Bool.{or-true}
 use Rattle.std.proofs.lemmas.Bool.{cases_eq, eq-eqb, eqb-true, ne_eqb}
 use Rattle.std.proofs.lemmas.List.{map-append, length-map}
@@ -25,10 +26,11 @@ use Rattle.replay.specs.Steps.{log_of}
 use Rattle.node_threads.specs.declared.ending.EndedCluster.{EndedCluster}
 use Rattle.node_threads.specs.declared.ending.EndFault.{EndFault}
 use Rattle.node_threads.specs.declared.ending.EndFault.TheVariants.{LeftInHold, Memory}
+use Rattle.node_seats.specs.Books.{Known}
 use Rattle.node_threads.specs.Wires.{Wired}
-use Rattle.node_threads.specs.Ended.{owner}
+use Rattle.node_threads.specs.Ended.{owner, AllPast}
 use Rattle.node_threads.specs.Closing.{GivesBack}
-use Rattle.node_threads.specs.Ending.{steps_in, AreWell, last_table, table_told, TellsOf, Adds, IsUntold, IsWhy, RanOut, EndIs}
+use Rattle.node_threads.specs.Ending.{steps_in, AreWell, last_table, table_told, TellsOf, Adds, IsUntold, IsWhy, RanOut, Ends, EndIs, EndTells}
 use Rattle.node_threads.proofs.Stopping.{first_fails, well_in_order}
 
 -- one end more has its steps more
@@ -178,14 +180,34 @@ ran_out contents cluster lone ends ended C names once T =
 -- what ending comes to, where the threads gave back these ends
 module _ {N M : Type 0} (contents : N → Table) (cluster lone : List ℕ) (crew : List Wired) (ends : List End)
     (back : GivesBack cluster lone crew ends) (once : repeats (cluster ++ lone) ≡ false) where
-  pub ends_so : (r : Result (EndedCluster N M) EndFault) → IfOk r (TellsOf contents ends) → IfErr r (λ fault. IsWhy fault ends)
-      → EndIs contents cluster lone crew r
-  ends_so (Ok ended) told why = record {
+  abbrev told_so : (ended : EndedCluster N M) → TellsOf contents ends ended → Ends contents cluster lone crew ended
+  told_so ended told = record {
     ends = ends;
     back = back;
     told = told;
     order = well_in_order ends back.left told.well;
     run = ran_out contents cluster lone ends ended back.consistent back.names once told;
   }
+
+  ends_so : (r : Result (EndedCluster N M) EndFault) → IfOk r (TellsOf contents ends) → IfErr r (λ fault. IsWhy fault ends)
+      → EndIs contents cluster lone crew r
+  ends_so (Ok ended) told why = told_so ended told
   ends_so (Err (LeftInHold a)) told why = (ends, back, why, first_fails ends back.left a why)
   ends_so (Err Memory) told why = tt
+
+  -- and with the pasts of their books
+  pub ends_telling : (told : Result (EndedCluster N M) EndFault) → IfOk told (TellsOf contents ends) → IfErr told (λ fault. IsWhy fault ends)
+      → (pasts : Vec Known Global) → AllPast crew ends pasts.items → (r : Result (EndedCluster N M × Vec Known Global) EndFault)
+      → MatchResult r (λ both. (told ≡ Ok both.0) × (both.1 ≡ pasts)) (λ fault. told ≡ Err fault) → EndTells contents cluster lone crew r
+  ends_telling told ok why pasts are (Ok both) m = (
+    told_so both.0 (subst (λ (t : Result (EndedCluster N M) EndFault). IfOk t (TellsOf contents ends)) m.0 ok),
+    subst (λ (v : Vec Known Global). AllPast crew ends v.items) (sym m.1) are,
+  )
+  ends_telling told ok why pasts are (Err fault) m = subst (EndIs contents cluster lone crew) m (ends_so told ok why)
+
+-- and without them
+pub ends_without : {N M : Type 0} (contents : N → Table) (cluster lone : List ℕ) (crew : List Wired)
+    (told : Result (EndedCluster N M × Vec Known Global) EndFault) → EndTells contents cluster lone crew told → (r : Result (EndedCluster N M) EndFault)
+    → MatchResult told (λ both. r ≡ Ok both.0) (λ fault. r ≡ Err fault) → EndIs contents cluster lone crew r
+ends_without contents cluster lone crew (Ok both) tells r m = subst (EndIs contents cluster lone crew) (sym m) tells.0
+ends_without contents cluster lone crew (Err fault) tells r m = subst (EndIs contents cluster lone crew) (sym m) tells

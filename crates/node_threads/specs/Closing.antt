@@ -1,8 +1,10 @@
 -- What closing a cluster comes to.
-use Rattle.std.specs.Prelude.{ℕ, ◌≡◌, ◌⊎◌, All, List, ◌++◌, map, Result, Ok, Err}
+use Rattle.std.specs.Prelude.{ℕ, ◌≡◌, ◌⊎◌, All, List, ◌++◌, map, Vec, Result, Ok, Err}
+use Rattle.std.specs.declared.alloc.Global.{Global}
 use Rattle.node_loop.specs.declared.Transcript.{Transcript}
 use Rattle.node_loop.specs.declared.item.Item.{Item}
 use Rattle.node_seats.specs.Lines.{Sent}
+use Rattle.node_seats.specs.Books.{Known}
 use Rattle.replay.specs.declared.closed.Closed.{Closed}
 use Rattle.replay.specs.declared.faults.CloseFault.{CloseFault}
 use Rattle.replay.specs.declared.faults.CloseFault.TheVariants.{LeftInHold, Memory}
@@ -11,7 +13,7 @@ use Rattle.replay.specs.Consistent.{AreConsistent}
 use Rattle.replay.specs.Replaying.{Replayed, IsFault}
 use Rattle.node_threads.specs.Wires.{Wired}
 use Rattle.node_threads.specs.Drawing.{Drawn, AllCompared}
-use Rattle.node_threads.specs.Ended.{owner, IsLeftBy, FailsAlone, EndsInOrder, AllReturn}
+use Rattle.node_threads.specs.Ended.{owner, IsLeftBy, FailsAlone, EndsInOrder, AllReturn, AllPast}
 
 -- The threads of these nodes gave back one end for each, which its loop left behind, with their lines and inboxes; what was taken from
 -- an inbox was put on the lines into it. These ends are consistent
@@ -45,3 +47,8 @@ module _ {N M : Type 0} (cluster lone : List ℕ) (crew : List Wired) (ts : List
   -- so, or there was no memory for the ends
   abbrev pub CloseIs : Result (Closed N M) CloseFault → Type 0
   CloseIs result = Closes result ⊎ (result ≡ Err Memory)
+
+  -- so, and these are the pasts of their books, up to those ends
+  abbrev pub CloseTells : Result (Closed N M × Vec Known Global) CloseFault → Type 0
+  CloseTells (Ok told) = (closes : Closes (Ok told.0)) × AllPast crew closes.ends told.1.items
+  CloseTells (Err fault) = CloseIs (Err fault)

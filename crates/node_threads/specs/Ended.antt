@@ -1,5 +1,5 @@
 -- What threads give back.
-use Rattle.std.specs.Prelude.{ℕ, true, false, ◌≡◌, ◌<◌, ◌⊎◌, List, map, length, slice_index_or, Contains}
+use Rattle.std.specs.Prelude.{ℕ, true, false, ◌≡◌, ◌<◌, ◌⊎◌, Option, List, map, length, slice_index_or, Contains, IfSome}
 use Rattle.protocol_model.specs.World.{Opening}
 use Rattle.link.specs.declared.mailbox.Mailbox.{Mailbox}
 use Rattle.link.specs.Mailboxes.{taken, mailbox_room}
@@ -10,6 +10,9 @@ use Rattle.node_loop.specs.Coming.{IsLoopOf}
 use Rattle.node_loop.specs.Sound.{IsNodeOf, opened, IsSound, Tells}
 use Rattle.node_seats.specs.declared.parcel.Parcel.{Parcel}
 use Rattle.node_seats.specs.Lines.{Sent}
+use Rattle.node_seats.specs.Pages.{Book}
+use Rattle.node_seats.specs.Books.{Known}
+use Rattle.node_seats.specs.Moments.{EndsAt}
 use Rattle.node_seats.specs.declared.host.Stop.{Stop}
 use Rattle.node_seats.specs.declared.host.Stop.TheVariants.{Asked, Failed}
 use Rattle.node_seats.specs.Stops.{ends_alone}
@@ -39,6 +42,18 @@ pub record IsLeftBy (name : ℕ) (e : End) : Type 0 where
   pub stopped : StopsSo stop first loop
   pub alone : e.ended_alone ≡ ends_alone stop loop.left
 
+-- these are the moments of this book, up to the loop of this node that left this end behind
+pub record IsPastOf (name : ℕ) (book : Book) (e : End) (past : Known) : Type 0 where
+  pub book_is : past.book ≡ book
+  pub left : IsLeftBy name e
+  pub ends : EndsAt past.log left.loop
+
+-- so the pasts of all these nodes, in their order
+pub record AllPast (ws : List Wired) (ends : List End) (pasts : List Known) : Type 0 where
+  pub as_many : length pasts ≡ length ws
+  pub each : (i : ℕ) (w : Wired) (e : End) (p : Known) → i < length ws
+      → IsPastOf (name_of (slice_index_or ws i w)) (slice_index_or ws i w).inbox.book (slice_index_or ends i e) (slice_index_or pasts i p)
+
 -- of these ends one is this node's, the last turn of whose thread failed where the node hadn't left
 pub record FailsAlone (ends : List End) (a : ℕ) : Type 0 where
   pub end : End
@@ -62,6 +77,11 @@ pub record IsEndOf (a : Looping) (lines : List (Sent Item)) (mailbox : Mailbox (
   pub tells : (o : Opening) → are_inside o a.log.node (receivers lines) ≡ true
       → IsSound o a (dealt_by lines (taken mailbox))
       → Tells o (written e.log) e.table (dealt_by rows (taken box))
+
+-- so, and its book is given back where it could be sealed
+pub record IsOver (a : Looping) (lines : List (Sent Item)) (mailbox : Mailbox (Parcel Item)) (book : Book) (e : End) (rows : List (Sent Item)) (box : Mailbox (Parcel Item)) (past : Option Known) : Type 0 where
+  pub end : IsEndOf a lines mailbox e rows box
+  pub past_is : IfSome past (IsPastOf a.log.node book e)
 
 -- so the thread of a node, which started so
 pub record Returns (w : Wired) (end : End) (lines : List (Sent Item)) (d : Drawn) : Type 0 where

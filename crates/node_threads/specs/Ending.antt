@@ -1,5 +1,6 @@
 -- What ending a cluster comes to, whether its steps were kept or not.
-use Rattle.std.specs.Prelude.{ℕ, true, All, ◌≡◌, ◌+◌, ◌++◌, List, [], ◌∷◌, map, length, Result, Ok, Err}
+use Rattle.std.specs.Prelude.{ℕ, true, All, ◌≡◌, ◌+◌, ◌++◌, List, [], ◌∷◌, map, length, Vec, Result, Ok, Err}
+use Rattle.std.specs.declared.alloc.Global.{Global}
 use Rattle.registry_model.specs.Table.{Table}
 use Rattle.protocol_model.specs.World.{Opening}
 use Rattle.closing_runs.specs.Merging.{Step, events_in, world_behind}
@@ -13,8 +14,9 @@ use Rattle.replay.specs.Replaying.{AreAll}
 use Rattle.node_threads.specs.declared.ending.EndedCluster.{EndedCluster}
 use Rattle.node_threads.specs.declared.ending.EndFault.{EndFault}
 use Rattle.node_threads.specs.declared.ending.EndFault.TheVariants.{LeftInHold, Memory}
+use Rattle.node_seats.specs.Books.{Known}
 use Rattle.node_threads.specs.Wires.{Wired}
-use Rattle.node_threads.specs.Ended.{owner, FailsAlone, EndsInOrder}
+use Rattle.node_threads.specs.Ended.{owner, FailsAlone, EndsInOrder, AllPast}
 use Rattle.node_threads.specs.Closing.{GivesBack}
 use Rattle.replay.specs.Worlds.{of_nodes}
 use Rattle.replay.specs.LeftoversOfWorlds.{NothingIsLeft}
@@ -98,3 +100,8 @@ module _ {N M : Type 0} (contents : N → Table) (cluster lone : List ℕ) (crew
   EndIs (Ok ended) = Ends ended
   EndIs (Err (LeftInHold a)) = (ends : List End) × GivesBack cluster lone crew ends × EndsAlone ends a × FailsAlone ends a
   EndIs (Err Memory) = Unit {0}
+
+  -- so, and these are the pasts of their books, up to those ends
+  abbrev pub EndTells : Result (EndedCluster N M × Vec Known Global) EndFault → Type 0
+  EndTells (Ok told) = (ends : Ends told.0) × AllPast crew ends.ends told.1.items
+  EndTells (Err fault) = EndIs (Err fault)

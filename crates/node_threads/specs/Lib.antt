@@ -1,6 +1,7 @@
 pub use Rattle.node_loop.specs.Openings
 pub use Rattle.replay.specs.Consistent
 pub use Rattle.node_seats.specs.Addresses
+pub use Rattle.node_seats.specs.Publishing
 pub use Rattle.node_seats.specs.Lines
 pub use Rattle.node_seats.specs.Faults
 pub use Rattle.node_seats.specs.Seats

@@ -5,17 +5,11 @@ use Rattle.link.specs.Mailboxes.{taken, mailbox_room}
 use Rattle.node_loop.specs.declared.item.Item.{Item}
 use Rattle.node_loop.specs.Held.{Looping}
 use Rattle.node_loop.specs.Coming.{IsLoopOf}
-use Rattle.node_loop.specs.Owing.{Owes}
-use Rattle.node_seats.specs.Publishing.{Progress, next_edition}
 use Rattle.node_loop.specs.Sound.{BeginsSound}
 use Rattle.node_seats.specs.declared.parcel.Parcel.{Parcel}
 use Rattle.node_seats.specs.Lines.{Sent}
 use Rattle.node_seats.specs.Addresses.{Inbox}
 use Rattle.node_threads.specs.Wires.{unused}
-
--- what readers are shown, and what waits for them, is of this node, and owed what is missing
-abbrev pub Publishes : Looping → Progress → Type 0
-Publishes a p = (p.node ≡ a.log.node) × Owes a (next_edition p)
 
 -- its loop, its lines, on which nothing was put, and its end of this inbox, from which nothing was taken
 pub record IsAtStart (inbox : Inbox) (a : Looping) (lines : List (Sent Item)) (mailbox : Mailbox (Parcel Item)) : Type 0 where

@@ -1,6 +1,10 @@
 //! Nodes whose threads are yet to start.
-ghost use Rattle.std.specs.Prelude.{◌≡◌, [], true, IfOk};
+ghost use Rattle.std.specs.Prelude.{◌≡◌, ◌∷◌, [], true, false, IfOk};
 ghost use Rattle.term.specs.NodeSets.{set_of};
+ghost use Rattle.node_loop.specs.Coming.{IsLoopOf};
+ghost use Rattle.node_loop.specs.Editions.{opening};
+ghost use Rattle.node_loop.specs.Owing.{shown_by};
+ghost use Rattle.node_seats.specs.Moments.{moment};
 
 use crate::running::{Running, Work};
 use crate::shared::Shared;
@@ -8,8 +12,8 @@ use link::Mailbox;
 use name_table::Names;
 use node_loop::{Gate, Item, NodeLoop, Opening, Record};
 use node_seats::{
-    Address, Caller, Host, KeptPublisher, Line, MOST_READERS, Opened, Parcel, Publisher,
-    ReaderFactory, open_node,
+    Address, Caller, Host, IdleReaders, KeptPublisher, Line, MOST_READERS, Opened, Parcel,
+    Publisher, open_node,
 };
 use std::alloc::{AllocError, Global};
 use std::marker::Model;
@@ -40,7 +44,8 @@ impl<G: Gate + Drop, N: Names, L: Record, R: Wait + Drop> Model for Berth<G, N, 
     ghost use Rattle.node_seats.specs.Callers.{inbox_of};
     ghost use Rattle.node_seats.specs.Addresses.{inbox_at};
     ghost use Rattle.node_threads.specs.Berths.{Berthed};
-    ghost use Rattle.node_threads.specs.Starts.{IsAtStart, Publishes};
+    ghost use Rattle.node_seats.specs.Publishing.{Publishes};
+    ghost use Rattle.node_threads.specs.Starts.{IsAtStart};
 
     ghost Value = { Berthed };
 
@@ -50,19 +55,23 @@ impl<G: Gate + Drop, N: Names, L: Record, R: Wait + Drop> Model for Berth<G, N, 
     } };
 
     ghost invariant = { λ b. IsAtStart (inbox_at b.address) b.node b.lines.items b.mailbox × (inbox_of b.caller ≡ inbox_at b.address)
-        × Publishes b.node b.publisher.publisher };
+        × Publishes b.node b.publisher.publisher × (b.publisher.publisher.known.book ≡ (inbox_at b.address).book) };
 }
 
-/// The publisher of the table of a node, which is empty still, and by what it is read.
-fn publish<R: Wait + Drop + Copy>(
+/// The publisher of the table of a node whose loop is at its start, and those by whom it is read.
+fn publish<R: Wait + Drop + Copy, N: Names<Memory = Global>, L: Record>(
     rt: &R,
     alloc: Global,
-    node: &Node,
-) -> Result<(KeptPublisher<R>, ReaderFactory), AllocError>
-    ensures { IfOk result (λ made. made.0.publisher ≡ record { node = node.now; editions = []; waiting = []; length = 0 }) }
+    node: &NodeLoop<N, L>,
+) -> Result<(KeptPublisher<R>, IdleReaders), AllocError>
+    requires came { IsLoopOf node.now.log.node node.now }
+    requires opens { shown_by node.now ≡ opening node.now.log.node }
+    ensures log { IfOk result (λ made. made.0.publisher.known.log ≡ moment false node.now ∷ []) }
+    ensures readers { IfOk result (λ made. made.1 ≡ made.0.publisher.known) }
 {
-    let kept = KeptPublisher::new(*rt, Publisher::new(alloc, node, MOST_READERS)?);
-    let readers = kept.publisher.readers()?;
+    let publisher = Publisher::new(rt, alloc, node, MOST_READERS)?;
+    let mut kept = KeptPublisher::new(*rt, publisher);
+    let readers = kept.publisher.readers(MOST_READERS)?;
     Ok((kept, readers))
 }
 
@@ -92,9 +101,9 @@ where
         ensures name { IfOk result (λ berth. name_of berth.wired ≡ node.now) }
         ensures opened { IfOk result (IsOpened opening.now) }
     {
-        // What is large comes last: the check follows each way out with all that was made before it.
         let gate = Arc::try_clone(&shared.gate)?;
-        let (publisher, readers) = publish(rt, alloc, node)?;
+        let own = NodeLoop::new(alloc, opening.core(alloc, node), shared.stamp)?;
+        let (publisher, readers) = publish(rt, alloc, &own)?;
         let Opened {
             address,
             caller,
@@ -108,7 +117,6 @@ where
             shared.yields,
             readers,
         )?;
-        let node = NodeLoop::new(alloc, opening.core(alloc, node), shared.stamp)?;
         Ok(Berth {
             address,
             caller,
@@ -117,7 +125,7 @@ where
             publisher,
             lines: Vec::new(alloc),
             gate,
-            node,
+            node: own,
         })
     }
 

@@ -1,5 +1,5 @@
 //! Clusters: the threads of all nodes, and the seats at them.
-ghost use Rattle.std.specs.Prelude.{ℕ, ◌≡◌, ◌==◌, ◌++◌, [], map, true, false, Some, None, Err, IfOk, OnOk, IfErr, OnErr};
+ghost use Rattle.std.specs.Prelude.{ℕ, ◌≡◌, ◌==◌, ◌++◌, [], map, true, false, Some, None, Ok, Err, IfOk, OnOk, IfErr, OnErr, MatchResult};
 ghost use Rattle.std.specs.List.{position};
 ghost use Rattle.term.specs.NodeSets.{set_of};
 ghost use Rattle.node_loop.specs.Openings.{start_refused, start_fault_of, IsOpening};
@@ -8,8 +8,9 @@ ghost use Rattle.node_seats.specs.Faults.{IsSeatRefused};
 ghost use Rattle.node_seats.specs.Seats.{first_at, sitting};
 ghost use Rattle.replay.specs.Consistent.{is_torn};
 ghost use Rattle.replay.specs.Ends.{end_by};
-ghost use Rattle.node_threads.specs.Closing.{CloseIs, GivesBack};
-ghost use Rattle.node_threads.specs.Ending.{EndIs};
+ghost use Rattle.node_threads.specs.Closing.{CloseIs, CloseTells, GivesBack};
+ghost use Rattle.node_threads.specs.Ended.{AllPast};
+ghost use Rattle.node_threads.specs.Ending.{EndIs, EndTells};
 
 use crate::berths::berths_of;
 use crate::crew::{Gathered, end_all, free_seat_of, launch_all};
@@ -20,7 +21,7 @@ use crate::seating::Seating;
 use crate::shared::Shared;
 use name_table::Names;
 use node_loop::{Gate, Log, NodeEnd, Opening, Record, StartFault, Transcript};
-use node_seats::{Caller, ForgottenNotes, FreeSeat, NodeStatus, Notes, Seat, SeatFault};
+use node_seats::{Caller, ForgottenNotes, FreeSeat, NodeStatus, Notes, Past, Seat, SeatFault};
 use replay::{CloseFault, Closed, replay};
 use std::alloc::{AllocError, Global};
 use std::marker::Model;
@@ -40,13 +41,14 @@ pub struct Cluster<G: Gate + Drop, N: Names, L: Record = Log> {
     seating: Seating,
 }
 
-/// What the threads of a cluster left behind, and its lists of nodes.
+/// What the threads of a cluster left behind, its lists of nodes, and the book of each.
 #[derive(Drop)]
 struct LeftBehind<N: Names, L: Record> {
     alloc: Global,
     cluster: Vec<NodeName>,
     lone: Vec<NodeName>,
     ends: Vec<NodeEnd<N, L>>,
+    pasts: Vec<Past>,
 }
 
 impl<G: Gate + Drop, N: Names, L: Record> Model for Cluster<G, N, L> {
@@ -87,6 +89,26 @@ fn index_of<N: Names<Memory = Global> + Send + 'static, L: Record + Send + 'stat
     ensures { result ≡ position (λ one. one.inbox.node == node.now) running.now }
 {
     running.iter().position(|one| one.node().is_first_of(node))
+}
+
+/// What was told, with the books of all nodes.
+fn with_pasts<T: Drop, E: Drop>(told: Result<T, E>, pasts: Vec<Past>) -> Result<(T, Vec<Past>), E>
+    ensures { MatchResult result (λ both. (told ≡ Ok both.0) × (both.1 ≡ pasts)) (λ fault. told ≡ Err fault) }
+{
+    match told {
+        Ok(told) => Ok((told, pasts)),
+        Err(fault) => Err(fault),
+    }
+}
+
+/// What was told, without the books.
+fn without_pasts<T: Drop, E: Drop>(told: Result<(T, Vec<Past>), E>) -> Result<T, E>
+    ensures { MatchResult told (λ both. result ≡ Ok both.0) (λ fault. result ≡ Err fault) }
+{
+    match told {
+        Ok((told, _pasts)) => Ok(told),
+        Err(fault) => Err(fault),
+    }
 }
 
 impl<G, N, L> Cluster<G, N, L>
@@ -261,6 +283,7 @@ where
         ensures lone { IfOk result (λ left. left.lone.items ≡ self.lone) }
         ensures lists { start_refused self.cluster self.lone ≡ None }
         ensures back { IfOk result (λ left. GivesBack self.cluster self.lone self.crew (map (end_by N.contents L.logged) left.ends.items)) }
+        ensures pasts { IfOk result (λ left. AllPast self.crew (map (end_by N.contents L.logged) left.ends.items) left.pasts.items) }
     {
         let Cluster {
             alloc,
@@ -275,6 +298,7 @@ where
                 ends,
                 rows,
                 mut intakes,
+                pasts,
             },
         ) = end_all(rt, alloc, running)
         else {
@@ -286,6 +310,7 @@ where
             cluster,
             lone,
             ends,
+            pasts,
         })
     }
 
@@ -296,10 +321,26 @@ where
     pub fn end<R: Threads>(self, rt: &R) -> Result<EndedCluster<N>, EndFault>
         ensures { EndIs N.contents self.cluster self.lone self.crew result }
     {
-        let Ok(LeftBehind { alloc, ends, .. }) = self.into_ends(rt) else {
+        without_pasts(self.end_telling(rt))
+    }
+
+    /// Ends as `end` does, and gives the book of each node, too, in the order of the nodes. It covers the tokens of all seats at that node
+    /// (`Past::covers`): what they looked up they found in what the node's own thread showed, behind a beginning of the log that it left.
+    pub fn end_telling<R: Threads>(self, rt: &R) -> Result<(EndedCluster<N>, Vec<Past>), EndFault>
+        ensures { EndTells N.contents self.cluster self.lone self.crew result }
+    {
+        let Ok(
+            LeftBehind {
+                alloc,
+                ends,
+                pasts,
+                ..
+            },
+        ) = self.into_ends(rt)
+        else {
             return Err(EndFault::Memory);
         };
-        tell_of(alloc, ends)
+        with_pasts(tell_of(alloc, ends), pasts)
     }
 }
 
@@ -319,23 +360,38 @@ where
         ensures is { CloseIs self.cluster self.lone self.crew transcripts.now result }
         ensures whole { IfErr result (λ fault. is_torn fault ≡ false) }
     {
+        without_pasts(self.close_telling(rt, transcripts))
+    }
+
+    /// Closes as `close` does, and gives the book of each node, too, in the order of the nodes. It covers the tokens of all seats at that node
+    /// (`Past::covers`): what they looked up they found in what the node's own thread showed, behind a beginning of the log that it left.
+    pub fn close_telling<R: Threads>(
+        self,
+        rt: &R,
+        transcripts: &[Transcript],
+    ) -> Result<(Closed<N>, Vec<Past>), CloseFault>
+        ensures tells { CloseTells self.cluster self.lone self.crew transcripts.now result }
+        ensures whole { IfErr result (λ fault. is_torn fault ≡ false) }
+    {
         let Ok(
             LeftBehind {
                 alloc,
                 cluster,
                 lone,
                 ends,
+                pasts,
             },
         ) = self.into_ends(rt)
         else {
             return Err(CloseFault::Memory);
         };
-        replay(
+        let told = replay(
             alloc,
             cluster.as_slice(),
             lone.as_slice(),
             ends.as_slice(),
             transcripts,
-        )
+        );
+        with_pasts(told, pasts)
     }
 }

@@ -1,11 +1,11 @@
 //! The threads of all nodes of a cluster: started, and ended.
-ghost use Rattle.std.specs.Prelude.{◌≡◌, ◌<◌, ◌++◌, ◌∷◌, [], true, map, IfOk, OnOk, IfSome};
+ghost use Rattle.std.specs.Prelude.{◌≡◌, ◌<◌, ◌++◌, ◌∷◌, [], true, map, IfOk, OnOk, IfSome, MatchOption};
 ghost use Rattle.node_seats.specs.Callers.{nodes_at};
 ghost use Rattle.node_seats.specs.Seats.{new_seat};
 ghost use Rattle.node_threads.specs.Wires.{inboxes};
 ghost use Rattle.node_threads.specs.Berths.{wired_of};
 ghost use Rattle.replay.specs.Ends.{end_by};
-ghost use Rattle.node_threads.specs.Ended.{AllReturn};
+ghost use Rattle.node_threads.specs.Ended.{AllReturn, AllPast};
 
 use crate::berth::Berth;
 use crate::intake::Intake;
@@ -13,7 +13,7 @@ use crate::running::{Returned, Running};
 use crate::shared::Shared;
 use name_table::Names;
 use node_loop::{Gate, Item, NodeEnd, Record};
-use node_seats::{FreeSeat, Line, Place, SLOTS};
+use node_seats::{FreeSeat, Line, Past, Place, SLOTS};
 use std::alloc::{AllocError, Global};
 use std::sync::Wait;
 use std::thread::Threads;
@@ -26,6 +26,18 @@ pub(crate) struct Gathered<N: Names, L: Record> {
     /// The lines of each node.
     pub(crate) rows: Vec<Vec<Line<Item>>>,
     pub(crate) intakes: Vec<Intake>,
+    /// The book of each node.
+    pub(crate) pasts: Vec<Past>,
+}
+
+/// One past more, if there is one, and memory for it.
+fn put(pasts: &mut Vec<Past>, past: Option<Past>) -> bool
+    ensures { result ≡ true → MatchOption past ⊥ (λ p. pasts.new.items ≡ pasts.old.items ++ p ∷ []) }
+{
+    match past {
+        Some(past) => pasts.push(past).is_ok(),
+        None => false,
+    }
 }
 
 impl<N: Names<Memory = Global>, L: Record> Gathered<N, L> {
@@ -34,26 +46,36 @@ impl<N: Names<Memory = Global>, L: Record> Gathered<N, L> {
         ensures ends { result.ends.items ≡ [] }
         ensures rows { result.rows.items ≡ [] }
         ensures intakes { result.intakes.items ≡ [] }
+        ensures pasts { result.pasts.items ≡ [] }
     {
         Gathered {
             ends: Vec::new(alloc),
             rows: Vec::new(alloc),
             intakes: Vec::new(alloc),
+            pasts: Vec::new(alloc),
         }
     }
 
-    /// One thread more gave this back. Whether there was memory for it: it isn't kept where one of the lists couldn't grow.
+    /// One thread more gave this back. Whether its book was sealed, and there was memory for it: it isn't kept where one of the lists couldn't
+    /// grow.
     fn add(&mut self, returned: Returned<N, L>) -> bool
         ensures ends { result ≡ true → self.new.ends.items ≡ self.old.ends.items ++ returned.end ∷ [] }
         ensures rows { result ≡ true → self.new.rows.items ≡ self.old.rows.items ++ returned.lines ∷ [] }
         ensures intakes { result ≡ true → self.new.intakes.items ≡ self.old.intakes.items ++ returned.intake ∷ [] }
+        ensures pasts { result ≡ true → MatchOption returned.past ⊥ (λ past. self.new.pasts.items ≡ self.old.pasts.items ++ past ∷ []) }
     {
-        let Returned { end, lines, intake } = returned;
+        let Returned {
+            end,
+            lines,
+            intake,
+            past,
+        } = returned;
         // No way out in the midst: each that is given back is either kept or dropped here.
         let has_end = self.ends.push(end).is_ok();
         let has_row = self.rows.push(lines).is_ok();
         let has_intake = self.intakes.push(intake).is_ok();
-        has_end && has_row && has_intake
+        let has_past = put(&mut self.pasts, past);
+        has_end && has_row && has_intake && has_past
     }
 }
 
@@ -122,7 +144,7 @@ where
     Ok(free)
 }
 
-/// Asks these threads to end, and waits until all have. Gives what they gave back, where there is memory for it.
+/// Asks these threads to end, and waits until all have. Gives what they gave back, where there is memory for it, and each book was sealed.
 pub(crate) fn end_all<N, L, R>(
     rt: &R,
     alloc: Global,
@@ -132,7 +154,8 @@ where
     N: Names<Memory = Global> + Send + 'static,
     L: Record + Send + 'static,
     R: Threads,
-    ensures { IfSome result (λ all. AllReturn running.items (map (end_by N.contents L.logged) all.ends.items) (map (λ row. row.items) all.rows.items) all.intakes.items) }
+    ensures back { IfSome result (λ all. AllReturn running.items (map (end_by N.contents L.logged) all.ends.items) (map (λ row. row.items) all.rows.items) all.intakes.items) }
+    ensures pasts { IfSome result (λ all. AllPast running.items (map (end_by N.contents L.logged) all.ends.items) all.pasts.items) }
 {
     for one in &running {
         one.stop();

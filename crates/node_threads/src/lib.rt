@@ -43,8 +43,8 @@ pub use fairness::nobody_starves;
 pub use node_loop::{ForgottenLog, Gate, Log, OpenGate, Record, StartFault};
 pub use node_seats::{
     Call, ForgottenNotes, FreeSeat, HolderSeat, KeptNotes, Line, MOST_SEATS, NameList, NodeStatus,
-    Nodes, Notes, Notice, NoticeList, Numbers, Parcel, Reply, Retries, Seat, SeatFault, StepFault,
-    Transcript,
+    Nodes, Notes, Notice, NoticeList, Numbers, Parcel, Past, Reply, Retries, Seat, SeatFault,
+    StepFault, Token, Transcript,
 };
 pub use replay::{CloseFault, Closed, HistoryEntry, KeptEntry};
 pub use ruled_end::{RuledEnd, Traffic};

@@ -4,10 +4,12 @@ ghost use Rattle.std.specs.Prelude.{◌≡◌, IfOk, OnOk};
 ghost use Rattle.node_loop.specs.Coming.{IsLoopOf};
 ghost use Rattle.node_seats.specs.Addresses.{inbox_at};
 ghost use Rattle.node_loop.specs.Owing.{KeepsOwing};
-ghost use Rattle.node_threads.specs.Starts.{IsAtStart, Publishes};
+ghost use Rattle.node_seats.specs.Onward.{ComesFrom};
+ghost use Rattle.node_seats.specs.Publishing.{Publishes};
+ghost use Rattle.node_threads.specs.Starts.{IsAtStart};
 ghost use Rattle.node_threads.specs.Ends.{fixed};
 ghost use Rattle.node_threads.specs.Soundness.{StaysSound, LastsSound, IsBesides};
-ghost use Rattle.node_threads.specs.Ended.{IsEndOf};
+ghost use Rattle.node_threads.specs.Ended.{IsOver};
 ghost use Rattle.node_threads.specs.Stops.{CameTo, StopsSo};
 ghost use Rattle.replay.specs.Ends.{end_by};
 
@@ -17,8 +19,8 @@ use link::Mailbox;
 use name_table::Names;
 use node_loop::{Gate, Item, NodeEnd, NodeLoop, Record, TurnFault};
 use node_seats::{
-    Address, Caller, Host, Hub, KeptPublisher, Line, NodeStatus, Parcel, Place, SLOTS, SeatFault,
-    Stop,
+    Address, Caller, Host, Hub, KeptPublisher, Line, NodeStatus, Parcel, Past, Place, SLOTS,
+    SeatFault, Stop, Token,
 };
 use std::alloc::{AllocError, Global};
 use std::marker::Model;
@@ -29,28 +31,32 @@ use std::thread::{Promise, PromisedHandle, Threads};
 use std::time::Clock;
 use term::Node;
 
-/// What a thread gives back: what its node left behind, its lines, and its end of its inbox.
+/// What a thread gives back: what its node left behind, its lines, its end of its inbox, and the book of its node, sealed. There is none where
+/// the node had more moments than a `u64` counts.
 #[derive(Drop)]
 pub(crate) struct Ended<N: Names, L: Record> {
     pub(crate) end: NodeEnd<N, L>,
     pub(crate) lines: Vec<Line<Item>>,
     pub(crate) mailbox: Mailbox<Parcel<Item>>,
+    pub(crate) past: Option<Past>,
 }
 
-/// That what a thread gives back came by turns from this loop, with these lines and this end of an inbox.
+/// That what a thread gives back came by turns from this loop, with these lines and this end of an inbox, and that the moments that it gives
+/// back are those of this book.
 #[derive(Drop)]
 pub(crate) struct EndOf<N: Names, L: Record>(
     Snapshot<NodeLoop<N, L>>,
     Snapshot<Vec<Line<Item>>>,
     Snapshot<Mailbox<Parcel<Item>>>,
+    Snapshot<Token>,
 );
 
 impl<N: Names, L: Record> Promise<Ended<N, L>> for EndOf<N, L> {
-    ghost use Rattle.node_threads.specs.Ended.{IsEndOf};
+    ghost use Rattle.node_threads.specs.Ended.{IsOver};
     ghost use Rattle.replay.specs.Ends.{end_by};
 
-    ghost kept_by = { λ promise ended. IsEndOf promise.0.value promise.1.value.items promise.2.value
-        (end_by N.contents L.logged ended.end) ended.lines.items ended.mailbox };
+    ghost kept_by = { λ promise ended. IsOver promise.0.value promise.1.value.items promise.2.value promise.3.value.book
+        (end_by N.contents L.logged ended.end) ended.lines.items ended.mailbox ended.past };
 }
 
 /// A node whose thread runs: where it is reached, how it stands, and the thread. Contracts see its inbox, the core with which it
@@ -79,7 +85,7 @@ impl<N: Names, L: Record> Model for Running<N, L> {
     } };
 
     ghost invariant = { λ r. IsAtStart (inbox_at r.address) r.handle.promise.0.value r.handle.promise.1.value.items r.handle.promise.2.value
-        × (inbox_of r.caller ≡ inbox_at r.address) };
+        × (inbox_of r.caller ≡ inbox_at r.address) × (r.handle.promise.3.value.book ≡ (inbox_at r.address).book) };
 }
 
 /// What a node's thread works with.
@@ -94,12 +100,13 @@ pub(crate) struct Work<G: Gate + Drop, N: Names, L: Record, R: Wait + Drop> {
     pub(crate) publisher: KeptPublisher<R>,
 }
 
-/// What a node whose thread has ended left behind, its lines, and its inbox.
+/// What a node whose thread has ended left behind, its lines, its inbox, and its book, sealed.
 #[derive(Drop)]
 pub(crate) struct Returned<N: Names, L: Record> {
     pub(crate) end: NodeEnd<N, L>,
     pub(crate) lines: Vec<Line<Item>>,
     pub(crate) intake: Intake,
+    pub(crate) past: Option<Past>,
 }
 
 /// One turn of a node is its own, and it keeps its end.
@@ -110,6 +117,7 @@ fn turn<G: Gate, N: Names<Memory = Global>, L: Record, R: Wait + Drop>(
 ) -> Result<(), TurnFault>
     ensures node { node.new.log.node ≡ node.old.log.node }
     ensures came { IsLoopOf node.old.log.node node.old → IsLoopOf node.old.log.node node.new }
+    ensures comes { ComesFrom node.old node.new }
     ensures came_to { CameTo result node.old node.new }
     ensures sound { StaysSound node.old end.old result node.new end.new }
     ensures owing { KeepsOwing node.old node.new }
@@ -139,6 +147,7 @@ fn show<N: Names<Memory = Global>, L: Record, R: Wait + Drop>(
     requires publishes { Publishes node.old publisher.publisher }
     ensures came { IsLoopOf node.old.log.node node.new }
     ensures publishes { Publishes node.new result.0.publisher }
+    ensures book { result.0.publisher.known.book ≡ publisher.publisher.known.book }
     ensures kept { IsBesides node.old node.new }
 {
     let (publisher, shown) = publisher.show(node);
@@ -162,6 +171,8 @@ fn turns<G: Gate, N: Names<Memory = Global>, L: Record, R: Wait + Clock + Drop>(
     requires publishes { Publishes node.old publisher.publisher }
     ensures node { node.new.log.node ≡ node.old.log.node }
     ensures came { IsLoopOf node.old.log.node node.new }
+    ensures publishes { Publishes node.new result.0.publisher }
+    ensures book { result.0.publisher.known.book ≡ publisher.publisher.known.book }
     ensures stops { StopsSo result.1 node.old node.new }
     ensures sound { LastsSound node.old end.old node.new end.new }
     ensures same { fixed end.new ≡ fixed end.old }
@@ -190,7 +201,7 @@ fn run<G: Gate + Drop, N: Names<Memory = Global>, L: Record, R: Wait + Clock + D
 ) -> Ended<N, L>
     requires came { IsLoopOf work.node.log.node work.node }
     requires publishes { Publishes work.node work.publisher.publisher }
-    ensures { IsEndOf work.node work.lines.items work.mailbox (end_by N.contents L.logged result.end) result.lines.items result.mailbox }
+    ensures { IsOver work.node work.lines.items work.mailbox work.publisher.publisher.known.book (end_by N.contents L.logged result.end) result.lines.items result.mailbox result.past }
 {
     let Work {
         mut node,
@@ -204,13 +215,15 @@ fn run<G: Gate + Drop, N: Names<Memory = Global>, L: Record, R: Wait + Clock + D
     let mut end = RuledEnd::new(*rt, alloc, node.node().copy(), lines, mailbox);
     let (publisher, stop) = turns(rt, &mut node, &mut end, &*gate, &mut host, publisher);
     let (lines, mailbox) = end.into_parts();
+    let (table, past) = publisher.seal(&node);
     let end = host.end(node, stop);
     host.stay(rt);
-    drop(publisher);
+    table.close(rt);
     Ended {
         end,
         lines,
         mailbox,
+        past: past.ok(),
     }
 }
 
@@ -229,11 +242,13 @@ where
     ensures node { IfOk result (λ handle. handle.promise.0.value ≡ work.node) }
     ensures lines { IfOk result (λ handle. handle.promise.1.value ≡ work.lines) }
     ensures mailbox { IfOk result (λ handle. handle.promise.2.value ≡ work.mailbox) }
+    ensures book { IfOk result (λ handle. handle.promise.3.value.book ≡ work.publisher.publisher.known.book) }
 {
     let promise = EndOf(
         Snapshot::of(&work.node),
         Snapshot::of(&work.lines),
         Snapshot::of(&work.mailbox),
+        Snapshot::of(&work.publisher.publisher.token()),
     );
     let own = *rt;
     let handle = thread::spawn_with(
@@ -243,17 +258,18 @@ where
             requires sends { IsSend G.row × IsSend N.row × IsSend L.row × IsSend R.row × IsSync G.row }
             requires came { IsLoopOf work.node.log.node work.node }
             requires publishes { Publishes work.node work.publisher.publisher }
-            ensures { IsEndOf work.node work.lines.items work.mailbox (end_by N.contents L.logged result.end) result.lines.items result.mailbox }
+            ensures { IsOver work.node work.lines.items work.mailbox work.publisher.publisher.known.book (end_by N.contents L.logged result.end) result.lines.items result.mailbox result.past }
         { run(&own, work) },
     )?;
     Ok(handle)
 }
 
 impl<N: Names<Memory = Global> + Send + 'static, L: Record + Send + 'static> Running<N, L> {
-    ghost use Rattle.std.specs.Prelude.{◌<◌, [], IfErr};
-    ghost use Rattle.node_seats.specs.Callers.{inbox_of, place_of, nodes_of, nodes_at, asked_by, seen_of, unseen, IsEnd};
+    ghost use Rattle.std.specs.Prelude.{◌<◌, [], IfErr, IfSome};
+    ghost use Rattle.node_seats.specs.Callers.{inbox_of, place_of, nodes_of, nodes_at, asked_by, seen_of, IsEnd};
+    ghost use Rattle.node_seats.specs.Readers.{unseen};
     ghost use Rattle.node_threads.specs.Wires.{name_of};
-    ghost use Rattle.node_threads.specs.Ended.{Returns};
+    ghost use Rattle.node_threads.specs.Ended.{Returns, IsPastOf};
     ghost use Rattle.node_threads.specs.Clusters.{LeftAsAsked};
 
     /// Starts the thread of a node. What it works with is the node's, which is at its start.
@@ -268,6 +284,7 @@ impl<N: Names<Memory = Global> + Send + 'static, L: Record + Send + 'static> Run
         R: Threads + Wait + Clock + Drop + Copy + Send + 'static,
         requires start { IsAtStart (inbox_at address) work.node work.lines.items work.mailbox }
         requires asks { inbox_of caller ≡ inbox_at address }
+        requires book { work.publisher.publisher.known.book ≡ (inbox_at address).book }
         requires publishes { Publishes work.node work.publisher.publisher }
         ensures { IfOk result (λ running. running ≡ record { inbox = inbox_at address; core = work.node.core; lines = work.lines.items }) }
     {
@@ -300,7 +317,7 @@ impl<N: Names<Memory = Global> + Send + 'static, L: Record + Send + 'static> Run
         ensures asks { IfOk result (λ caller. inbox_of caller ≡ self.old.inbox) }
         ensures nodes { IfOk result (λ caller. nodes_of caller ≡ nodes_at hub.now.value) }
         ensures unasked { IfOk result (λ caller. asked_by caller ≡ []) }
-        ensures unread { IfOk result (λ caller. seen_of caller ≡ unseen) }
+        ensures unread { IfOk result (λ caller. seen_of caller ≡ unseen self.old.inbox.book) }
         ensures node { self.new ≡ self.old }
     {
         self.caller.another(hub, &mut self.address, place, yields)
@@ -329,7 +346,8 @@ impl<N: Names<Memory = Global> + Send + 'static, L: Record + Send + 'static> Run
 
     /// Waits until its thread has ended, and gives what it gave back.
     pub(crate) fn join<R: Threads>(self, rt: &R) -> Returned<N, L>
-        ensures { Returns self (end_by N.contents L.logged result.end) result.lines.items result.intake }
+        ensures end { Returns self (end_by N.contents L.logged result.end) result.lines.items result.intake }
+        ensures past { IfSome result.past (IsPastOf (name_of self) self.inbox.book (end_by N.contents L.logged result.end)) }
     {
         let Running {
             address,
@@ -340,11 +358,13 @@ impl<N: Names<Memory = Global> + Send + 'static, L: Record + Send + 'static> Run
             end,
             lines,
             mailbox,
+            past,
         } = handle.join(rt);
         Returned {
             end,
             lines,
             intake: Intake::new(address, mailbox),
+            past,
         }
     }
 }

@@ -1,52 +1,41 @@
 -- What was published, and what waits.
-use Rattle.std.specs.Prelude.{◌≡◌, ◌<◌, ℕ, List, [], ◌∷◌, ◌++◌, fold, Option}
-use Rattle.left_right.specs.Sides.{view}
-use Rattle.left_right.specs.declared.board.Doing.{Doing}
-use Rattle.left_right.specs.declared.part.Part.{Part}
-use Rattle.atomic_table.specs.declared.shared.Seat.{Seat}
-use Rattle.node_loop.specs.declared.edit.Edition.{Edition}
-use Rattle.node_loop.specs.declared.edit.Update.{Update}
-use Rattle.node_loop.specs.Editions.{updated}
+use Rattle.std.specs.Prelude.{◌≡◌, List, [], ◌∷◌, fold, Option, Some, None}
+use Rattle.logbook.specs.Pages.{Book}
+use Rattle.node_books.specs.declared.Edition.{Edition}
+use Rattle.node_books.specs.Held.{Looping}
+use Rattle.node_books.specs.Owing.{Owes}
+use Rattle.node_books.specs.Books.{Known}
+use Rattle.node_books.specs.Moments.{Follows, shown_at}
 use Rattle.shared_table.specs.declared.shown.Shown.{Shown}
-use Rattle.shared_table.specs.Editions.{edition_of, latest}
+use Rattle.shared_table.specs.declared.shown.Front.{Front}
+use Rattle.shared_table.specs.declared.shown.Stamp.{Stamp}
+use Rattle.shared_table.specs.Editions.{front_of, stamped, IsSo}
+use Rattle.shared_table.specs.Rule.{Token, IsOf}
 
 pub record Progress : Type 0 where
-  pub node : ℕ  -- whose table it is
-  pub editions : List Edition  -- that were published, the oldest first
-  pub waiting : List Update  -- that aren't published yet
-  pub length : ℕ  -- of the node's log, behind the last of these
+  pub known : Known  -- the book of the node, and the moments that were written there
+  pub shown : Edition  -- what readers are shown
 
--- the editions that were published, by the publisher's place at the table
-abbrev pub seen_at : Seat (Option (Part Shown)) (Doing Shown (List Edition)) → List Edition
-seen_at s = view s
+-- the stamp that found no place, if one did
+abbrev pub held_back : Option Stamp → List Stamp
+held_back None = []
+held_back (Some s) = s ∷ []
 
--- each update is of a longer log than the one before it, and the last is of this length
-abbrev pub Climbs : ℕ → List Update → ℕ → Type 0
-Climbs n [] m = m ≡ n
-Climbs n (u ∷ us) m = (n < u.length) × Climbs u.length us m
+-- behind each of these in turn what is shown is what the last of its moments shows, and all are of this book
+abbrev pub AreSo : Book → Front → List Stamp → Type 0
+AreSo b f [] = IsSo f × (f.seen.book ≡ b)
+AreSo b f (s ∷ ss) = IsSo f × (f.seen.book ≡ b) × AreSo b (stamped f s) ss
 
--- what a publisher holds: what is shown is the latest of the editions that were published, and what waits climbs from there
-abbrev pub IsSound : ℕ → Shown → List Edition → List Update → ℕ → Type 0
-IsSound node shown es us m =
-    (shown.node ≡ node) × (edition_of shown ≡ latest node es) × Climbs (latest node es).length us m
+-- What a publisher holds: what waits leads from what is shown to what the last moment shows that was written
+pub record IsSound (known : Known) (shown : Shown) (waiting : List Stamp) (mark : Option Token) : Type 0 where
+  pub so : AreSo known.book (front_of shown) waiting
+  pub last : (fold stamped (front_of shown) waiting).edition ≡ shown_at known.log
+  pub knows : IsOf known.book mark
 
--- what contracts see of that
-abbrev pub progress_of : ℕ → List Edition → List Update → ℕ → Progress
-progress_of node es us m = record { node = node; editions = es; waiting = us; length = m }
+-- the loop came from the last moment that was written to where it stands, and owes its readers what it has done since
+abbrev pub Publishes : Looping → Progress → Type 0
+Publishes a p = Follows p.known.log a × Owes a (shown_at p.known.log)
 
--- the edition that readers are shown
-abbrev pub current : Progress → Edition
-current p = latest p.node p.editions
-
--- the edition that has all that waits
-abbrev pub next_edition : Progress → Edition
-next_edition p = fold updated (current p) p.waiting
-
--- these wait, and one more edition has them
-abbrev pub issued : List Update → Progress → Progress
-issued [] p = p
-issued (u ∷ us) p = record { node = p.node; editions = p.editions ++ next_edition p ∷ []; waiting = []; length = p.length }
-
--- behind a publish
-abbrev pub published : Progress → Progress
-published p = issued p.waiting p
+-- all that was written is shown
+abbrev pub IsAllShown : Progress → Type 0
+IsAllShown p = p.shown ≡ shown_at p.known.log

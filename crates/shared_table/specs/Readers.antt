@@ -1,66 +1,70 @@
 -- What a reader has seen, and what it finds.
-use Rattle.std.specs.Prelude.{◌≡◌, ◌≢◌, ◌<◌, ◌≤◌, ℕ, true, false, List, [], Option, Some, None}
+use Rattle.std.specs.Prelude.{◌≡◌, ◌<◌, ◌≤◌, ℕ, true, false, List, [], Option, Some, None, length}
+use mathlib.Core.List.{IsPrefix}
 use Rattle.registry_model.specs.Process.{Text}
 use Rattle.registry_model.specs.Table.{get}
 use Rattle.left_right.specs.Sides.{view}
 use Rattle.left_right.specs.declared.reader.Reader.{Reader}
-use Rattle.node_loop.specs.declared.edit.Edition.{Edition}
+use Rattle.logbook.specs.Pages.{Book}
+use Rattle.node_books.specs.declared.moment.Moment.{Moment}
+use Rattle.node_books.specs.Books.{Known}
+use Rattle.node_books.specs.Moments.{AreMoments, shown_at}
+use Rattle.shared_table.specs.declared.shown.Shown.{Shown}
 use Rattle.shared_table.specs.declared.reader.Entry.{Entry}
 use Rattle.shared_table.specs.declared.reader.Lookup.{Lookup}
-use Rattle.shared_table.specs.declared.reader.Lookup.TheVariants.{Owner, Left, Behind, Stranger, Gone}
-use Rattle.shared_table.specs.Editions.{latest, IsShown}
-use Rattle.shared_table.specs.Rule.{StartsWith}
+use Rattle.shared_table.specs.declared.reader.Lookup.TheVariants.{Owner, Left, Behind, Gone}
+use Rattle.shared_table.specs.Rule.{Token, IsOf}
 
 pub record Seen : Type 0 where
-  pub editions : List Edition  -- that were published when it read last
+  pub known : Known  -- the book of its node, and the moments of it that it has read
   pub told : ℕ  -- the length of the log that it was told of, or has read
 
-abbrev pub seen_by : {T P A : Type 0} → Option (Reader T (List Edition) P A) → List Edition
-seen_by None = []
-seen_by (Some r) = view r.place
+-- nothing of this book was read, and nothing told
+abbrev pub unseen : Book → Seen
+unseen b = record { known = record { book = b; log = [] }; told = 0 }
 
--- the edition that was read last, of this node's table
-abbrev pub last_read : ℕ → Seen → Edition
-last_read node s = latest node s.editions
+-- a reader of a node's table
+pub record Placed : Type 0 where
+  pub node : ℕ
+  pub seen : Seen
 
--- an entry finds the name x in this edition of the node's table, which the node has shown
-pub record IsFound (entry : Entry) (node : ℕ) (x : Text) (e : Edition) : Type 0 where
-  pub own : e.node ≡ node
-  pub owner : entry.owner ≡ get x e.table
-  pub length : entry.length ≡ e.length
-  pub left : entry.left ≡ e.left
-  pub shown : IsShown e
+-- the place of this reader is known to be at the table of this book
+abbrev pub IsReaderOf : {P A : Type 0} → Book → Option (Reader Shown (Option Token) P A) → Type 0
+IsReaderOf b None = Unit {0}
+IsReaderOf b (Some r) = IsOf b (view r.place)
 
--- The latest edition of the node's table was read: none before those that were seen, and of no shorter a log than was told. The node has
--- shown it
+-- an entry finds this name in what the last of its moments shows
+pub record IsFound (entry : Entry) (x : Text) : Type 0 where
+  pub owner : entry.owner ≡ get x (shown_at entry.seen.log).table
+  pub long : entry.length ≡ (shown_at entry.seen.log).length
+  pub left : entry.left ≡ (shown_at entry.seen.log).left
+  pub count : entry.count ≡ length entry.seen.log
+  pub some : 0 < entry.count
+
+-- The moments that are then known are of the same book, and begin with those before. They are moments of this node's loop, and the last of
+-- them shows no shorter a log than was told
 pub record Reads (node : ℕ) (old new : Seen) : Type 0 where
-  pub later : StartsWith new.editions old.editions
+  pub book : new.known.book ≡ old.known.book
+  pub later : IsPrefix old.known.log new.known.log
+  pub some : 0 < length new.known.log
+  pub moments : AreMoments new.known.log
+  pub own : (shown_at new.known.log).node ≡ node
   pub rises : old.told ≤ new.told
-  pub told : new.told ≡ (last_read node new).length
-  pub own : (last_read node new).node ≡ node
-  pub shown : IsShown (last_read node new)
+  pub told : new.told ≡ (shown_at new.known.log).length
 
--- The latest edition of the node's table was read, which the node has shown, and it is of a shorter log than was told: nothing is answered
--- from it
+-- a moment of this node's loop was read that shows a shorter log than was told: nothing is answered from it
 pub record IsBehind (node : ℕ) (old new : Seen) : Type 0 where
-  pub later : StartsWith new.editions old.editions
-  pub told : new.told ≡ old.told
-  pub own : (last_read node new).node ≡ node
-  pub shorter : (last_read node new).length < old.told
-  pub shown : IsShown (last_read node new)
+  pub same : new ≡ old
+  pub read : List Moment
+  pub some : 0 < length read
+  pub moments : AreMoments read
+  pub own : (shown_at read).node ≡ node
+  pub shorter : (shown_at read).length < old.told
 
--- these are editions of another node's table: the latest of them is, which that node has shown
-pub record AreAnothers (node : ℕ) (es : List Edition) : Type 0 where
-  pub other : ℕ
-  pub another : other ≢ node
-  pub own : (latest other es).node ≡ other
-  pub shown : IsShown (latest other es)
-
--- what a look-up of the name x in the table of this node comes to
+-- What a look-up of the name x in the table of this node comes to: it is answered by what the last of the moments shows that are then known
 abbrev pub Finds : Lookup → ℕ → Text → Seen → Seen → Type 0
 Finds (Owner owner) node x old new =
-    Reads node old new × ((last_read node new).left ≡ false) × (owner ≡ get x (last_read node new).table)
-Finds Left node x old new = Reads node old new × ((last_read node new).left ≡ true)
+    Reads node old new × ((shown_at new.known.log).left ≡ false) × (owner ≡ get x (shown_at new.known.log).table)
+Finds Left node x old new = Reads node old new × ((shown_at new.known.log).left ≡ true)
 Finds Behind node x old new = IsBehind node old new
-Finds Stranger node x old new = StartsWith new.editions old.editions × (new.told ≡ old.told) × AreAnothers node new.editions
 Finds Gone node x old new = new ≡ old

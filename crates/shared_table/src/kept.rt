@@ -1,12 +1,13 @@
 //! A publisher that a thread may own.
-ghost use Rattle.std.specs.Prelude.{◌≡◌, true};
-ghost use Rattle.node_loop.specs.Owing.{shown_by, Owes};
-ghost use Rattle.node_loop.specs.Coming.{IsLoopOf, HandsOver};
-ghost use Rattle.shared_table.specs.Publishing.{current, next_edition};
+ghost use Rattle.std.specs.Prelude.{◌≡◌, ◌∷◌, ◌++◌, [], true, IfOk};
+ghost use Rattle.node_books.specs.Owing.{shown_by};
+ghost use Rattle.node_books.specs.Coming.{HandsOver};
+ghost use Rattle.node_books.specs.Moments.{moment};
+ghost use Rattle.shared_table.specs.Publishing.{Publishes};
 
-use crate::publisher::Publisher;
+use crate::publisher::{LastTable, Publisher};
 use name_table::Names;
-use node_loop::{NodeLoop, Record};
+use node_books::{NodeLoop, Past, Record, Scribe, ScribeFault};
 use std::alloc::Global;
 use std::sync::Wait;
 
@@ -21,7 +22,7 @@ pub struct KeptPublisher<R: Wait + Drop> {
 impl<R: Wait + Drop> Drop for KeptPublisher<R> {
     fn drop(self) {
         let Self { publisher, rt } = self;
-        publisher.close(&rt);
+        drop(publisher.close(&rt));
     }
 }
 
@@ -39,12 +40,11 @@ impl<R: Wait + Drop> KeptPublisher<R> {
         self,
         node: &mut NodeLoop<N, L>,
     ) -> (Self, bool)
-        requires came { IsLoopOf node.old.log.node node.old }
-        requires owes { Owes node.old (next_edition self.publisher) }
-        ensures owes { Owes node.new (next_edition result.0.publisher) }
-        ensures shown { result.1 ≡ true → current result.0.publisher ≡ shown_by node.new }
+        requires { Publishes node.old self.publisher }
+        ensures publishes { Publishes node.new result.0.publisher }
+        ensures shown { result.1 ≡ true → result.0.publisher.shown ≡ shown_by node.new }
         ensures node { HandsOver node.old node.new }
-        ensures named { result.0.publisher.node ≡ self.publisher.node }
+        ensures book { result.0.publisher.known.book ≡ self.publisher.known.book }
     {
         let Self { mut publisher, rt } = self;
         if publisher.note(node).is_err() {
@@ -52,5 +52,25 @@ impl<R: Wait + Drop> KeptPublisher<R> {
         }
         let (publisher, done) = publisher.publish(&rt);
         (KeptPublisher { publisher, rt }, done.is_ok())
+    }
+
+    /// Writes down how the loop stands at its end, as `Publisher::seal` does.
+    pub fn seal<N: Names<Memory = Global>, L: Record>(
+        self,
+        node: &NodeLoop<N, L>,
+    ) -> (LastTable, Result<Past, ScribeFault>)
+        requires { Publishes node.now self.publisher }
+        ensures { IfOk result.1 (λ past. past ≡ record self.publisher.known { log = self.publisher.known.log ++ moment true node.now ∷ [] }) }
+    {
+        let Self { publisher, rt: _rt } = self;
+        publisher.seal(node)
+    }
+
+    /// From then on readers find nothing. What was written of the node, and who writes on, comes back.
+    pub fn close(self) -> Scribe
+        ensures { result ≡ self.publisher.known }
+    {
+        let Self { publisher, rt } = self;
+        publisher.close(&rt)
     }
 }

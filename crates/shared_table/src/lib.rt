@@ -4,18 +4,22 @@
 //! edition that was published last; it never waits, neither for the publisher nor for other readers.
 #![tactic(auto)]
 
+mod chute;
+mod idle;
 mod kept;
 mod publisher;
 mod reader;
 mod rule;
 mod shown;
 
+pub use chute::{Chute, Stamped};
+pub use idle::{Idle, IdleReaders};
 pub use kept::KeptPublisher;
-pub use node_loop::{
-    Answer, Call, Edit, Edition, Effect, Event, Item, NameList, NodeEnd, NodeLoop, Nodes, Notice,
-    NoticeList, Numbers, Record, Reply, Retries, SeatEntry, StepFault, Task, TaskFault, TaskReply,
-    Ticket, Transcript, Update, WorldEvent,
+pub use node_books::{
+    Answer, Call, Edit, Edition, Effect, Event, Item, Moment, NameList, NodeEnd, NodeLoop, Nodes,
+    Notice, NoticeList, Numbers, Past, Record, Reply, Retries, ScribeFault, SeatEntry, StepFault,
+    Task, TaskFault, TaskReply, Ticket, Token, Transcript, Update, WorldEvent,
 };
-pub use publisher::Publisher;
-pub use reader::{Lookup, ReaderFactory, TableReader};
-pub use shown::Shown;
+pub use publisher::{LastTable, Publisher};
+pub use reader::{Lookup, TableReader};
+pub use shown::{Front, Shown, Stamp};

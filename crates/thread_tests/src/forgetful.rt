@@ -4,7 +4,8 @@ use crate::plays::names_of;
 use crate::tables::Stubborn;
 use name_table::Names;
 use node_threads::{
-    Call, Cluster, EndFault, EndedCluster, ForgottenLog, ForgottenNotes, OpenGate, Reply, Seat,
+    Call, Cluster, EndFault, EndedCluster, ForgottenLog, ForgottenNotes, OpenGate, Past, Reply,
+    Seat,
 };
 use std::alloc::Global;
 use std::sync::Wait;
@@ -22,8 +23,12 @@ fn registers<R: Wait + Clock>(
     process: &Pid,
     name: &Name,
 ) -> bool {
-    seat.call(rt, Call::Spawn) == Ok(Reply::Pid(process.copy()))
+    let is_owner = seat.call(rt, Call::Spawn) == Ok(Reply::Pid(process.copy()))
         && seat.call(rt, register(name, process)) == Ok(Reply::Yes)
+        && seat.whereis(name) == Ok(Some(process.copy()));
+    // What the seat knows of its node outlives it, and has no bytes.
+    let _known = seat.token();
+    is_owner
 }
 
 /// Does so from a seat at the process's node.
@@ -43,10 +48,13 @@ fn is_told(ended: &EndedCluster<Stubborn>, process: &Pid, name: &Name) -> bool {
     all
 }
 
-/// Whether a cluster's end came to that.
-fn is_met(ended: Result<EndedCluster<Stubborn>, EndFault>, process: &Pid, name: &Name) -> bool {
+/// What a cluster's end tells, with the book of each node.
+type Ended = Result<(EndedCluster<Stubborn>, Vec<Past>), EndFault>;
+
+/// Whether a cluster's end came to that, and gave a book for each node.
+fn is_met(ended: Ended, process: &Pid, name: &Name) -> bool {
     match ended {
-        Ok(ended) => is_told(&ended, process, name),
+        Ok((ended, pasts)) => pasts.len() == 2 && is_told(&ended, process, name),
         Err(EndFault::Memory | EndFault::LeftInHold(_)) => false,
     }
 }
@@ -62,7 +70,7 @@ fn ends<R: Threads + Wait + Clock + Drop + Copy + Send + 'static>(
     match Forgetful::start(rt, alloc, nodes, &[], OpenGate, 500, 0) {
         Ok(mut cluster) => {
             let fine = plays(rt, &mut cluster, process, name);
-            is_met(cluster.end(rt), process, name) && fine
+            is_met(cluster.end_telling(rt), process, name) && fine
         }
         Err(_) => false,
     }

@@ -1,6 +1,7 @@
 use Rattle.std.proofs.Common.{◌++◌, ◌∷◌, [], List, map, take, get_or, set, sym, ap, ◌∙◌}
 use Rattle.std.proofs.lemmas.List.{set-get_or, map_more, map_push}
 use Rattle.node_seats.specs.Callers.{nodes_at}
+use Rattle.node_seats.specs.Readers.{unseen}
 use Rattle.node_seats.specs.Seats.{Sitting, sitting, new_seat}
 use Rattle.node_threads.specs.Wires.{Wired, inboxes}
 use Rattle.node_threads.proofs.Rows.{new_sitting}
@@ -19,7 +20,9 @@ loop-one-preserved g c =
           (new_sitting c.in_ok-caller.field-0 c.args.place (nodes_at c.args.shared.now.hub.value) one.inbox c.in_ok-caller.ensures.place
           (c.in_ok-caller.ensures.asks
           ∙ ap (λ (ws : List Wired). (get_or ws c.loop-one.one-index c.one-item.result).inbox) c.loop-one.invariant.same)
-          c.in_ok-caller.ensures.nodes c.in_ok-caller.ensures.unasked c.in_ok-caller.ensures.unread)
+          c.in_ok-caller.ensures.nodes c.in_ok-caller.ensures.unasked
+          (c.in_ok-caller.ensures.unread
+          ∙ ap (λ (ws : List Wired). unseen (get_or ws c.loop-one.one-index c.one-item.result).inbox.book) c.loop-one.invariant.same))
           ∙ sym (ap (map (new_seat c.args.place (nodes_at c.args.shared.now.hub.value)))
           (map_more (λ (w : Wired). w.inbox) c.args.running.now c.loop-one.one-index c.one-item.result c.loop-one-test.true)
           ∙ map_push (new_seat c.args.place (nodes_at c.args.shared.now.hub.value)) (inboxes first) one.inbox);

@@ -12,3 +12,5 @@ returns g c = gives_back c.args.work.node c.args.work.lines.items c.args.work.ma
     c.requires.came c.turns-publisher.ensures.came c.turns-publisher.ensures.node c.turns-publisher.ensures.sound c.turns-publisher.ensures.same c.end-end.ensures.log c.end-end.ensures.table
     c.turns-publisher.result.1 c.turns-publisher.ensures.stops c.end-end.ensures.ended_alone c.end-end.ensures.sound c.into_parts-lines.ensures.lines c.into_parts-lines.ensures.letters
     c.into_parts-lines.ensures.room
+    c.turns-publisher.result.0.publisher.known c.args.work.publisher.publisher.known.book c.turns-publisher.ensures.book
+    c.seal-table.result.1 c.seal-table.ensures c.ok.result c.ok.ensures.value

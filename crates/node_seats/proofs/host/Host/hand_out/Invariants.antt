@@ -1,5 +1,6 @@
 use Rattle.std.proofs.Common.{◌≡◌}
 use Rattle.shared_table.specs.Coming.{IsLoopOf}
+use Rattle.shared_table.specs.Onward.{ComesFrom}
 use Rattle.node_seats.proofs.host.Host.hand_out.Given as goal
 
 abbrev pub invariant-loop : goal.invariant-loop
@@ -7,3 +8,4 @@ invariant-loop g l =
     (goal.iterator-loop g).can_next l.iterator' × (goal.iterator-loop g).is_finite l.iterator'
     × IsLoopOf l.fn.node.log.node l.node
     × (l.node ≡ record l.fn.node { desk = record l.fn.node.desk { replies = l.node.desk.replies } })
+    × ComesFrom l.fn.node l.node

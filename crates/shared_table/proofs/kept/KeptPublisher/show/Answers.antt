@@ -1,22 +1,17 @@
-use Rattle.std.proofs.Common.{ℕ, not, sym, ap, subst, ◌∙◌}
-use Rattle.node_loop.specs.declared.edit.Edition.{Edition}
-use Rattle.node_loop.specs.Held.{Looping}
-use Rattle.node_loop.specs.Coming.{IsLoopOf}
-use Rattle.node_loop.specs.Owing.{Owes}
-use Rattle.shared_table.proofs.Keeping.{published_next}
-use Rattle.shared_table.proofs.Showing.{loop_shown, comes_on, when_ok}
+use Rattle.std.proofs.Common.{◌∙◌, not, ap, sym, subst}
+use Rattle.std.specs.Prelude.{is_ok}
+use Rattle.node_books.specs.Books.{Known}
+use Rattle.node_books.specs.Moments.{Follows, shown_at}
+use Rattle.node_books.specs.Owing.{Owes}
+use Rattle.shared_table.proofs.Publishing.{when_ok}
 use Rattle.shared_table.proofs.kept.KeptPublisher.show.Goals as goal
 
-pub publish-publisher-requires : goal.publish-publisher-requires
-publish-publisher-requires g c = loop_shown c.note.new.node _
-    (subst (λ (n : ℕ). IsLoopOf n c.note.new.node) (sym (ap (λ (a : Looping). a.log.node) c.note.ensures.node))
-    (comes_on c.args.node.now.log.node c.args.node.now c.note.new.node c.requires.came c.note.ensures.node))
-    (when_ok c.note.result _ c.note.ensures.ok (c.is_err.ensures.negation ∙ ap not c.if-is_err.false))
+pub returns-clause-publishes : goal.returns-clause-publishes
+returns-clause-publishes g c = subst (λ (k : Known). Follows k.log c.note.new.node × Owes c.note.new.node (shown_at k.log))
+    (sym c.publish-publisher.ensures.known) c.note.ensures.follows
 
-pub returns-clause-owes : goal.returns-clause-owes
-returns-clause-owes g c = subst (λ (e : Edition). Owes c.note.new.node e)
-    (sym (published_next c.publish-publisher.result.1 c.note.new.self c.publish-publisher.result.0 c.publish-publisher.ensures).0) c.note.ensures.owes
-
-pub returns-clause-named : goal.returns-clause-named
-returns-clause-named g c =
-    (published_next c.publish-publisher.result.1 c.note.new.self c.publish-publisher.result.0 c.publish-publisher.ensures).1 ∙ c.note.ensures.named
+pub returns-clause-shown : goal.returns-clause-shown
+returns-clause-shown g c = λ done.
+    when_ok c.publish-publisher.result.1 _ c.publish-publisher.ensures.shown (sym c.is_ok.ensures.value ∙ done)
+    ∙ (ap (λ (k : Known). shown_at k.log) c.publish-publisher.ensures.known
+    ∙ when_ok c.note.result _ c.note.ensures.ok (c.is_err.ensures.negation ∙ ap not c.if-is_err.false))
