@@ -41,10 +41,10 @@ sits place inbox nodes asked seen granted es = record {
 -- what its caller is told, the seat is answered
 module _ (c : Caller) (es : List SeatEntry) (granted : Option ℕ) (s : Sitting) (is : seated c es granted ≡ s) where
   pub answered_so : (d : Caller) (fs : List SeatEntry) (last : Option ℕ) (outcome : Result Effect TaskFault)
-      → name_of d ≡ name_of c → IsToldTo (name_of c) (ticket_of c) outcome (told_of d) → Learns (seen_of c) (seen_of d)
+      → name_of d ≡ name_of c → IsToldTo (name_of c) (ticket_of c) outcome (seen_of d) → Learns (seen_of c) (seen_of d)
       → IsAnswered s outcome (seated d fs last)
   answered_so d fs last outcome node told learns = subst (λ (x : Sitting). IsAnswered x outcome (seated d fs last)) is (record {
-    told = subst (λ (n : ℕ). IsToldTo (name_of c) (record { seat = c.place.seat; slot = c.place.slot; number = n }) outcome (told_of d))
+    told = subst (λ (n : ℕ). IsToldTo (name_of c) (record { seat = c.place.seat; slot = c.place.slot; number = n }) outcome (seen_of d))
         c.counted told;
     learns = learns;
     shown = subst (λ (n : ℕ). HasShown n (told_of d)) node d.shown;

@@ -1,5 +1,6 @@
 -- What contracts see of a caller, and of the hub that it shares.
 use Rattle.std.specs.Prelude.{ℕ, ◌+◌, ◌-◌, ◌^◌, ◌≡◌, ◌≤◌, ◌⊎◌, Option, Some, None, List}
+use mathlib.Core.List.{IsPrefix}
 use Rattle.shared_table.specs.declared.Event.{Event}
 use Rattle.shared_table.specs.declared.Ticket.{Ticket}
 use Rattle.shared_table.specs.declared.Item.{Item}
@@ -42,7 +43,7 @@ nodes_at h = h.nodes
 abbrev pub nodes_of : Caller → List ℕ
 nodes_of c = nodes_at c.hub.value
 
--- what it knows of its node's moments, and how much of the node's log it was told of
+-- what it knows of its node's moments, whether it read them or was told of them, and how much of the node's log it was told of
 abbrev pub seen_of : Caller → Seen
 seen_of c = c.reader.seen
 
@@ -50,10 +51,15 @@ seen_of c = c.reader.seen
 abbrev pub told_of : Caller → ℕ
 told_of c = c.reader.seen.told
 
--- it may be told of more, and reads nothing
-pub record Learns (s t : Seen) : Type 0 where
-  pub known : t.known ≡ s.known
+-- it knows of more, of the same book
+pub record LearnsMore (s t : Seen) : Type 0 where
+  pub book : t.known.book ≡ s.known.book
+  pub later : IsPrefix s.known.log t.known.log
   pub rises : s.told ≤ t.told
+
+-- or it may have been told of nothing
+abbrev pub Learns : Seen → Seen → Type 0
+Learns s t = (t ≡ s) ⊎ LearnsMore s t
 
 -- the events that it has put into its node's inbox, the oldest first
 abbrev pub asked_by : Caller → List Event

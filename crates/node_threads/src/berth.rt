@@ -55,7 +55,8 @@ impl<G: Gate + Drop, N: Names, L: Record, R: Wait + Drop> Model for Berth<G, N, 
     } };
 
     ghost invariant = { λ b. IsAtStart (inbox_at b.address) b.node b.lines.items b.mailbox × (inbox_of b.caller ≡ inbox_at b.address)
-        × Publishes b.node b.publisher.publisher × (b.publisher.publisher.known.book ≡ (inbox_at b.address).book) };
+        × Publishes b.node b.publisher.publisher × (b.publisher.publisher.known.book ≡ (inbox_at b.address).book)
+        × (b.publisher.publisher.known.book ≡ b.host.book) };
 }
 
 /// The publisher of the table of a node whose loop is at its start, and those by whom it is read.

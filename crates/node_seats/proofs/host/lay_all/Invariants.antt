@@ -1,7 +1,8 @@
 use Rattle.std.proofs.Common.{◌≡◌}
 use Rattle.shared_table.specs.Coming.{IsLoopOf}
 use Rattle.shared_table.specs.Onward.{ComesFrom}
-use Rattle.node_seats.proofs.host.Host.hand_out.Given as goal
+use Rattle.node_seats.specs.Replies.{AreHeld}
+use Rattle.node_seats.proofs.host.lay_all.Given as goal
 
 abbrev pub invariant-loop : goal.invariant-loop
 invariant-loop g l =
@@ -9,3 +10,5 @@ invariant-loop g l =
     × IsLoopOf l.fn.node.log.node l.node
     × (l.node ≡ record l.fn.node { desk = record l.fn.node.desk { replies = l.node.desk.replies } })
     × ComesFrom l.fn.node l.node
+    × AreHeld l.fn.publisher.known.log l.node.desk.replies
+    × (l.slots ≡ l.fn.slots)
