@@ -13,7 +13,8 @@ use Rattle.term.specs.declared.faults.TextFault.{TextFault}
 use Rattle.term.specs.declared.faults.TextFault.TheVariants.{Empty, TooLong, BadByte, BadCreation, BadSerial, BadRule, TooManyNodes}
 use Rattle.term.specs.Laws.{IsDecided}
 use Rattle.term.specs.NodeLists.{ListsNodes, SpellsNodes, RefusesPart, RefusesNodes, ListsTooMany, parts_of, comma, list_of}
-use Rattle.term.specs.NodeSets.{set_of, with_node, most_nodes}
+use Rattle.term.specs.NodeSets.{set_of, with_node}
+use Rattle.term.specs.declared.limits.TheConstants.{MOST_NODES}
 use Rattle.term.specs.Nodes.{IsFirst}
 use Rattle.term.specs.Spelling.{IsText, SpellsNodeName, RefusesText, name_bytes}
 use Rattle.term.proofs.ExactTexts as texts
@@ -229,7 +230,7 @@ always_either bytes =
     listed names spelled sorted =
         let lists : ListsNodes bytes sorted.0 =
         record { names = names; spelled = spelled; rising = sorted.1; named = sorted.2 } in
-        elim (cases_lt most_nodes (length sorted.0)) [
+        elim (cases_lt MOST_NODES (length sorted.0)) [
           | inl over ↦ inr (TooManyNodes, record { nodes = sorted.0; listed = lists; over = over })
           | inr fits ↦ inl (sorted.0, record { listed = lists; fits = fits })
         ]

@@ -15,7 +15,8 @@ use Rattle.std.specs.Result.{is_err}
 use Rattle.term.specs.declared.faults.TextFault.{TextFault}
 use Rattle.term.specs.declared.faults.TextFault.TheVariants.{Empty, TooLong, BadByte, BadCreation, BadSerial, BadRule, TooManyNodes}
 use Rattle.term.specs.NodeLists.{ListsNodes, SpellsNodes, RefusesPart, RefusesNodes, ListsTooMany, parts_of}
-use Rattle.term.specs.NodeSets.{IsNodeSet, HasNoRoom, set_of, with_node, most_nodes}
+use Rattle.term.specs.NodeSets.{IsNodeSet, HasNoRoom, set_of, with_node}
+use Rattle.term.specs.declared.limits.TheConstants.{MOST_NODES}
 use Rattle.term.specs.Spelling.{IsText, SpellsNodeName, RefusesText}
 use Rattle.term.proofs.NodeSets.{StandsAt, FitsAt, rises, never_falls, with_node-there, with_node-fits, set_of-there, set_of-with_node, rising-insert}
 
@@ -102,7 +103,7 @@ pub record HasRead {S A : Type 0} (steps : S → Option A → S → Type 0) (v :
   pub all : List ℕ
   pub rising : IsStrictlyIncreasing all
   pub named : (c : ℕ) → set_of all c ≡ set_of names c
-  pub kept : MatchBool is_over (most_nodes < length all) (nodes ≡ all)
+  pub kept : MatchBool is_over (MOST_NODES < length all) (nodes ≡ all)
   pub set : IsNodeSet nodes
 
 -- a set with no node
@@ -143,9 +144,9 @@ no_part steps v s t (z ∷ zs) y step = absurd (y.runs.0 t step)
 
 -- a set keeps up with the nodes named, until one has no room
 kept_up : (all nodes after : List ℕ) (c : ℕ) (is_over : Bool) (r : Result Bool TextFault) → IsStrictlyIncreasing all
-    → MatchBool is_over (most_nodes < length all) (nodes ≡ all)
+    → MatchBool is_over (MOST_NODES < length all) (nodes ≡ all)
     → MatchResult r (λ is_new. (after ≡ with_node nodes c) × (is_new ≡ not (set_of nodes c))) (HasNoRoom nodes c)
-    → MatchBool (is_over || is_err r) (most_nodes < length (with_node all c)) (after ≡ with_node all c)
+    → MatchBool (is_over || is_err r) (MOST_NODES < length (with_node all c)) (after ≡ with_node all c)
 kept_up all nodes after c true r up over step = omega (arith, over, long-with_node all c up)
 kept_up all nodes after c false (Ok is_new) up same step = step.0 ∙ ap (λ (xs : List ℕ). with_node xs c) same
 kept_up all nodes after c false (Err f) up same step =

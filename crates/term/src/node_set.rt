@@ -7,15 +7,13 @@ ghost use Rattle.term.specs.NodeSets.{IsNodeSet, HasNoRoom, set_of, with_node, w
 ghost use Rattle.term.specs.NodeLists.{list_of_nodes};
 
 use crate::faults::TextFault;
+use crate::limits::MOST_NODES;
 use crate::node::Node;
 use crate::node_name::{Blank, NodeName};
 use crate::node_names::NodeNames;
 use arrayvec::ArrayVec;
 use std::fmt;
 use std::marker::Model;
-
-/// How many nodes a set holds at most.
-pub const MOST_NODES: usize = 8;
 
 /// A set of up to eight nodes, held in place. No call on it takes memory.
 #[derive(Debug, PartialEq, Eq, Drop)]
