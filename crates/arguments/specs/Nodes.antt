@@ -2,7 +2,8 @@
 use Rattle.std.specs.Prelude.{◌≡◌, ◌⊎◌, ◌+◌, ◌<◌, ◌≤◌, ℕ, Bool, true, false, List, [], length, Option, Some, None}
 use Rattle.std.specs.List.{list_any}
 use Rattle.term.specs.NodeLists.{SpellsNodes, RefusesNodes}
-use Rattle.term.specs.NodeSets.{most_nodes, set_of}
+use Rattle.term.specs.NodeSets.{set_of}
+use Rattle.term.specs.declared.limits.TheConstants.{MOST_NODES}
 use Rattle.term.specs.Spelling.{SpellsNodeName, RefusesText}
 use Rattle.term.specs.declared.faults.TextFault.{TextFault}
 use Rattle.arguments.specs.declared.faults.ArgFault.{ArgFault}
@@ -27,7 +28,7 @@ pub record PlacesNodes (nodes : List ℕ) (lone_list : Option (List ℕ)) (clust
   pub joined : SpellsNodes nodes cluster
   pub alone : SpellsLone lone_list lone
   pub apart : shares cluster lone ≡ false
-  pub fits : length cluster + length lone ≤ most_nodes
+  pub fits : length cluster + length lone ≤ MOST_NODES
 
 -- the two lists spell sets that share a node
 pub record SharesNode (nodes : List ℕ) (lone_list : Option (List ℕ)) : Type 0 where
@@ -44,7 +45,7 @@ pub record HasTooMany (nodes : List ℕ) (lone_list : Option (List ℕ)) : Type 
   pub joined : SpellsNodes nodes cluster
   pub alone : SpellsLone lone_list lone
   pub apart : shares cluster lone ≡ false
-  pub over : most_nodes < length cluster + length lone
+  pub over : MOST_NODES < length cluster + length lone
 
 -- the first list that spells no set is refused for the fault
 abbrev pub RefusesList : List ℕ → Option (List ℕ) → TextFault → Type 0

@@ -3,13 +3,10 @@ ghost use Rattle.std.specs.Prelude.{option_map, string_bytes};
 ghost use Rattle.arguments.specs.Together.{Clashes, NamesSocket};
 
 use crate::faults::OptionFault;
-use term::{NodeName, NodeNames};
+use term::{MOST_CONSOLES, NodeName, NodeNames};
 
 /// What the address begins with where it is the path of a socket.
 const SOCKET: &str = "unix:";
-
-/// How many consoles a server takes that doesn't stay.
-const MOST_TAKEN: u16 = 64;
 
 /// What the program is asked for.
 #[derive(Debug, Drop)]
@@ -74,7 +71,7 @@ impl ServeOptions {
             Some(OptionFault::Idle)
         } else if over_socket {
             Some(OptionFault::Socket)
-        } else if self.consoles > MOST_TAKEN {
+        } else if self.consoles > MOST_CONSOLES {
             Some(OptionFault::Consoles)
         } else {
             None
