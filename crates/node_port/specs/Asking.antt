@@ -1,5 +1,6 @@
 -- What the words behind a tag ask of the node.
 use Rattle.std.specs.Prelude.{ℕ, Bool, true, false, ◌≡◌, ◌||◌, ◌⊎◌, bytes_eq, codes, if◌then◌else◌, take, List, [], ◌∷◌, Ok}
+use Rattle.term.specs.declared.limits.TheConstants.{MOST_WORDS}
 use Rattle.protocol_model.specs.Event.{Event}
 use Rattle.protocol_model.specs.NamedEvents.{At, AtNode, Play}
 use Rattle.text_lines.specs.Words.{words}
@@ -56,9 +57,9 @@ meant own (word ∷ text ∷ next ∷ texts) =
 meant own (word ∷ text ∷ []) = word ∷ meant_by own (process_first word) text ∷ []
 meant own ws = ws
 
--- A text asks a node for this event: by its first seven words, as no line has so many. No clause says which process was spawned last, which
+-- A text asks a node for this event: by its first words, of which no line has so many. No clause says which process was spawned last, which
 -- `self` stands for
 pub record TextAsksFor (text : List ℕ) (event : Event) : Type 0 where
   pub node : List ℕ
   pub own : List ℕ
-  pub asks : WordsAskFor node (meant own (take 7 (words text))) event
+  pub asks : WordsAskFor node (meant own (take MOST_WORDS (words text))) event

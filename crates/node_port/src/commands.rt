@@ -15,8 +15,8 @@ use arrayvec::ArrayVec;
 use command_lines::{Event, LineFault, Task, WorldEvent, read_words, text_of};
 use letter_lines::{LetterFault, Part, parts_are_exact, read_part};
 use std::alloc::{AllocError, Global};
-use term::{Node, NodeName, Pid, parse_node};
-use text_lines::{Line, MOST_WORDS, first_words};
+use term::{MOST_WORDS, Node, NodeName, Pid, parse_node};
+use text_lines::{Line, first_words};
 use wire_end::LinkLine;
 
 /// What a line says.
@@ -163,7 +163,7 @@ fn own_text(alloc: Global, own: Option<&Pid>) -> Result<String, AllocError> {
 
 /// The first words of a text, as they are meant where this process was spawned last.
 fn meant_words<'a>(text: &'a str, own: &'a str) -> ArrayVec<&'a str, MOST_WORDS>
-    ensures { map (λ word. word.now) result.items ≡ meant own.now (take 7 (words_in text.now)) }
+    ensures { map (λ word. word.now) result.items ≡ meant own.now (take MOST_WORDS (words_in text.now)) }
 {
     let mut words = first_words(text);
     spell_own(&mut words, own);

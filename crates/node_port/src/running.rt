@@ -16,8 +16,8 @@ use crate::commands::{read_command, says_founds};
 use crate::port::{Port, Standing};
 use std::alloc::{AllocError, Global};
 use std::io::{BufReader, Read, Write};
-use term::{Node, NodeSet};
-use text_lines::{Line, MOST_LINES, StreamFault, hand_on, read_line};
+use term::{MOST_LINES, Node, NodeSet};
+use text_lines::{Line, StreamFault, hand_on, read_line};
 
 /// The next line of a reader, or none at its end. What was written is handed on before the reader waits.
 fn next_line<R: Read, W: Write>(
