@@ -1,6 +1,7 @@
 //! Nodes whose threads are yet to start.
 ghost use Rattle.std.specs.Prelude.{◌≡◌, [], true, IfOk};
 ghost use Rattle.term.specs.NodeSets.{set_of};
+ghost use Rattle.term.specs.declared.limits.TheConstants.{MOST_NODES};
 
 use crate::running::{Running, Work};
 use crate::shared::Shared;
@@ -8,15 +9,14 @@ use link::Mailbox;
 use name_table::Names;
 use node_loop::{Gate, Item, NodeLoop, Opening, Record};
 use node_seats::{
-    Address, Caller, Host, KeptPublisher, Line, MOST_READERS, Opened, Parcel, Publisher,
-    ReaderFactory, open_node,
+    Address, Caller, Host, KeptPublisher, Line, Opened, Parcel, Publisher, ReaderFactory, open_node,
 };
 use std::alloc::{AllocError, Global};
 use std::marker::Model;
 use std::sync::{Arc, Wait};
 use std::thread::Threads;
 use std::time::Clock;
-use term::Node;
+use term::{MOST_READERS, Node};
 
 /// A node whose thread is yet to start: where it is reached, and what its thread is to work with. Contracts see its inbox, how many
 /// lines lead there, the core that it opens with, and its own lines.
@@ -88,7 +88,7 @@ where
         index: u32,
     ) -> Result<Self, AllocError>
         requires known { set_of opening.now.nodes node.now ≡ true }
-        requires index { index < 8 }
+        requires index { index < MOST_NODES }
         ensures name { IfOk result (λ berth. name_of berth.wired ≡ node.now) }
         ensures opened { IfOk result (IsOpened opening.now) }
     {

@@ -42,8 +42,8 @@ pub use ending::{EndFault, EndedCluster};
 pub use fairness::nobody_starves;
 pub use node_loop::{ForgottenLog, Gate, Log, OpenGate, Record, StartFault};
 pub use node_seats::{
-    Call, ForgottenNotes, FreeSeat, HolderSeat, KeptNotes, Line, MOST_SEATS, NameList, NodeStatus,
-    Nodes, Notes, Notice, NoticeList, Numbers, Parcel, Reply, Retries, Seat, SeatFault, StepFault,
+    Call, ForgottenNotes, FreeSeat, HolderSeat, KeptNotes, Line, NameList, NodeStatus, Nodes,
+    Notes, Notice, NoticeList, Numbers, Parcel, Reply, Retries, Seat, SeatFault, StepFault,
     Transcript,
 };
 pub use replay::{CloseFault, Closed, HistoryEntry, KeptEntry};

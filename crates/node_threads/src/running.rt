@@ -17,8 +17,7 @@ use link::Mailbox;
 use name_table::Names;
 use node_loop::{Gate, Item, NodeEnd, NodeLoop, Record, TurnFault};
 use node_seats::{
-    Address, Caller, Host, Hub, KeptPublisher, Line, NodeStatus, Parcel, Place, SLOTS, SeatFault,
-    Stop,
+    Address, Caller, Host, Hub, KeptPublisher, Line, NodeStatus, Parcel, Place, SeatFault, Stop,
 };
 use std::alloc::{AllocError, Global};
 use std::marker::Model;
@@ -27,7 +26,7 @@ use std::sync::{Arc, Wait};
 use std::thread;
 use std::thread::{Promise, PromisedHandle, Threads};
 use std::time::Clock;
-use term::Node;
+use term::{Node, SLOTS};
 
 /// What a thread gives back: what its node left behind, its lines, and its end of its inbox.
 #[derive(Drop)]
