@@ -9,7 +9,7 @@ use Rattle.node_seats.specs.declared.fault.SeatFault.{SeatFault}
 use Rattle.node_seats.specs.declared.fault.SeatFault.TheVariants.{NoSuchNode, NodeLeft, Closed, Step}
 use Rattle.node_seats.specs.declared.hub.Hub.{Hub}
 use Rattle.node_seats.specs.declared.place.Place.{Place}
-use Rattle.node_seats.specs.declared.place.TheConstants.{MOST_SEATS}
+use Rattle.term.specs.declared.limits.TheConstants.{MOST_SEATS, SEAT_NUMBERS}
 use Rattle.shared_table.specs.Readers.{Seen}
 use Rattle.node_seats.specs.Lines.{with_parcel, events_on}
 use Rattle.node_seats.specs.Addresses.{Inbox}
@@ -26,13 +26,9 @@ inbox_of c = record { node = c.node; room = c.line.room }
 abbrev pub place_of : Caller → Place
 place_of c = c.place
 
--- how many numbers seats have
-abbrev pub seat_numbers : ℕ
-seat_numbers = 2 ^ 32 - 8
-
 -- the place of a cluster's own caller at the node with this index
 abbrev pub own_place : ℕ → Place
-own_place index = record { seat = seat_numbers + index; slot = MOST_SEATS + index }
+own_place index = record { seat = SEAT_NUMBERS + index; slot = MOST_SEATS + index }
 
 -- the nodes of a hub's cluster
 abbrev pub nodes_at : Hub → List ℕ

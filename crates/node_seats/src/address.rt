@@ -6,10 +6,10 @@ ghost use Rattle.link.specs.Mailboxes.{made_of, taken, root_room, mailbox_room};
 use crate::bell::{Bell, Rest};
 use crate::line::Line;
 use crate::parcel::Parcel;
-use link::{INBOX_ROOM, Mailbox, Root, compare, open};
+use link::{Mailbox, Root, compare, open};
 use std::alloc::{AllocError, Global};
 use std::marker::Model;
-use term::Node;
+use term::{INBOX_ROOM, Node};
 
 /// Where a node's inbox is reached: what makes the lines to it. Contracts see whose it is, how many were made, and the inbox.
 #[derive(Drop)]

@@ -12,7 +12,7 @@ ghost use Rattle.node_seats.specs.Replies.{IsToldTo, IsFaultTold};
 use crate::address::Address;
 use crate::bell::Rest;
 use crate::fault::SeatFault;
-use crate::hub::{Hub, SLOTS};
+use crate::hub::Hub;
 use crate::knowledge::Knowledge;
 use crate::line::Line;
 use crate::place::Place;
@@ -22,7 +22,7 @@ use shared_table::{Call, Effect, Event, Item, Lookup, TableReader, Task, TaskFau
 use std::alloc::{AllocError, Global};
 use std::sync::{Arc, Wait};
 use std::time::Clock;
-use term::{Name, Node, NodeSet, Pid};
+use term::{Name, Node, NodeSet, Pid, SLOTS};
 
 /// Asks the thread of one node, one event after another, and waits for each reply; and looks names up in the node's table. Contracts see
 /// the node, its place among the seats, the nodes of the cluster, the events that it has put into the node's inbox, and what it has seen of

@@ -1,22 +1,13 @@
 //! What the threads of a cluster share with its seats: its nodes, the replies, and whether the cluster is being closed.
 ghost use Rattle.std.specs.Prelude.{◌≡◌, ◌<◌, vec_len, IfOk};
-ghost use Rattle.node_seats.specs.declared.hub.TheConstants.{SLOTS};
+ghost use Rattle.term.specs.declared.limits.TheConstants.{SLOTS};
 
 use crate::bell::{Bell, Rest};
 use crate::laid::Laid;
-use crate::place::MOST_SEATS;
 use std::alloc::{AllocError, Global};
 use std::sync::atomic::{AtomicBool, Ordering};
 use std::sync::{Mutex, Wait};
-use term::{MOST_NODES, NodeSet};
-
-/// How many slots for replies there are: one for each seat that there is at once, and behind those one for the cluster's own calls at each
-/// node.
-pub const SLOTS: u32 = MOST_SEATS + MOST_NODES as u32;
-
-/// How many readers a node's table has: one for each seat that there is at once, which may be at any node, and one for the cluster's own
-/// calls.
-pub const MOST_READERS: usize = MOST_SEATS as usize + 1;
+use term::{NodeSet, SLOTS};
 
 /// Where the reply to one caller is laid. A caller has one call at a time, so one reply has room; and to lay one takes no memory,
 /// so none is ever lost. Seats have a slot one after another, and the number of each is above those before it.

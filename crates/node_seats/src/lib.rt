@@ -32,13 +32,13 @@ pub use fault::SeatFault;
 pub use free_seat::FreeSeat;
 pub use holder::HolderSeat;
 pub use host::{Host, Stop};
-pub use hub::{Hub, MOST_READERS, SLOTS};
+pub use hub::Hub;
 pub use knowledge::Knowledge;
 pub use line::Line;
 pub use notes::{ForgottenNotes, KeptNotes, Notes};
 pub use opened::{Opened, open_node};
 pub use parcel::Parcel;
-pub use place::{MOST_SEATS, Place, SEAT_NUMBERS};
+pub use place::Place;
 pub use seat::Seat;
 pub use shared_table::{
     Call, Effect, KeptPublisher, NameList, Nodes, Notice, NoticeList, Numbers, Publisher,

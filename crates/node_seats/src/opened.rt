@@ -3,6 +3,7 @@ ghost use Rattle.std.specs.Prelude.{◌≡◌, ◌<◌, [], IfOk};
 ghost use Rattle.link.specs.Mailboxes.{taken, mailbox_room};
 ghost use Rattle.node_seats.specs.Addresses.{inbox_at};
 ghost use Rattle.node_seats.specs.Callers.{name_of, inbox_of, place_of, own_place, nodes_of, nodes_at, asked_by};
+ghost use Rattle.term.specs.declared.limits.TheConstants.{MOST_NODES};
 
 use crate::address::{Address, Entrance, open_inbox};
 use crate::caller::Caller;
@@ -40,7 +41,7 @@ pub fn open_node(
     yields: u32,
     readers: ReaderFactory,
 ) -> Result<Opened, AllocError>
-    requires { index < 8 }
+    requires { index < MOST_NODES }
     ensures address { IfOk result (λ opened. opened.address ≡ record { node = node; lines = 1; room = mailbox_room opened.mailbox }) }
     ensures place { IfOk result (λ opened. place_of opened.caller ≡ own_place index) }
     ensures node { IfOk result (λ opened. name_of opened.caller ≡ node) }
