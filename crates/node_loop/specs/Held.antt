@@ -42,10 +42,6 @@ has_retry l = not l.left && can_retry (node_of l.core)
 abbrev pub is_due : Looping → Bool
 is_due l = has_retry l && (l.wait == 0)
 
--- it gives way for so many turns that read no letter at most
-abbrev pub most_turns : ℕ
-most_turns = 1024
-
 -- a leave waits
 abbrev pub has_leave : Looping → Bool
 has_leave l = not l.left && is_some (first_leave l.desk.leaves)
