@@ -8,10 +8,6 @@ use Rattle.term.specs.declared.faults.TextFault.TheVariants.{TooManyNodes}
 use Rattle.term.specs.Nodes.{IsFirst, name_of}
 use Rattle.term.specs.declared.limits.TheConstants.{MOST_NODES}
 
--- how many nodes a set holds at most
-abbrev pub most_nodes : ℕ
-most_nodes = MOST_NODES
-
 -- the nodes are listed as a set is: rising, and not too many
 pub record IsNodeSet (nodes : List ℕ) : Type 0 where
   pub rising : IsStrictlyIncreasing nodes
