@@ -155,6 +155,8 @@ impl<N: Names<Memory = Global>> NodeCore<N> {
         ensures unchanged { OnErr result (is_admission self.old.registrar.current ≡ false → self.new ≡ self.old) }
     {
         let holders = self.calls.holders(self.alloc)?;
+        // A call of each of these processes may give its lock back to all nodes, and the registrar's operation gives its own back, too, and may
+        // start what is next; a letter more is left.
         let room = holders.len().checked_mul(MOST_NODES).ok_or(AllocError)?;
         let room = room.checked_add(MOST_NODES + 2).ok_or(AllocError)?;
         turn.reserve(room, 3, room)?;
