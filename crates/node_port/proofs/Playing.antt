@@ -11,7 +11,8 @@ use Rattle.text_lines.specs.declared.lines.Line.{Line}
 use Rattle.text_lines.proofs.Known.{LosesLines-nil, LosesLines-trans, LosesInto-whole}
 use Rattle.text_lines.proofs.Written.{AppendsPart-behind, AppendsPart-whole}
 use Rattle.wire_end.specs.declared.wire_end.Wiring.{Wiring}
-use Rattle.node_port.specs.Commands.{Taken, Follows, Refused, Strange, Misplaced, IsTaken, Says, TakenAs}
+use Rattle.node_port.specs.Asking.{Reader, reader_of}
+use Rattle.node_port.specs.Commands.{Taken, Follows, Refused, Strange, Misplaced, Unfit, IsTaken, Says, TakenAs}
 use Rattle.node_port.specs.Deeds.{Stand, changes_by, replies_by}
 use Rattle.node_port.specs.Edits.{changed_lines}
 use Rattle.node_port.specs.Playing.{Printed, printed_text, printed_by, printed_out, said, spent, waiting, PlaysLine, MoreOnly, PlaysAll}
@@ -27,7 +28,7 @@ use Rattle.node_port.proofs.Growing.{changes_now, answers_now}
 use Rattle.node_port.proofs.Working.{waits}
 
 -- a line that was done at a node is printed
-module _ (bytes : List ℕ) (taken : Taken) (s : Standing) (a b c : Port) (says : IsTaken bytes taken) (empty : IsEmpty a.output)
+module _ (bytes : List ℕ) (taken : Taken) (s : Standing) (a b c : Port) (says : IsTaken (reader_of a.node) bytes taken) (empty : IsEmpty a.output)
     (P : PlaysAt taken s (spent s ++ waiting s b.node) a b) where
   abbrev pub printed : Printed
   printed = printed_by s taken (stand_of a) P.deeds (stand_of b)
@@ -198,24 +199,25 @@ module _ (a b : Stand) (input mid rest old w1 w2 : Option (List ℕ)) (P : Plays
     }
 
 -- a line is taken as the command is that it says
-pub taken_by : (bytes : List ℕ) (c : Command) (taken : Taken) → Says bytes c → TakenAs c taken → IsTaken bytes taken
-taken_by bytes c (Follows d) says so = subst (Says bytes) (sym so) says
-taken_by bytes c (Refused tag fault) says so = tt
-taken_by bytes c Strange says so = tt
-taken_by bytes c (Misplaced from line) says so = subst (Says bytes) so says
+pub taken_by : (reader : Reader) (bytes : List ℕ) (c : Command) (taken : Taken) → Says reader bytes c → TakenAs c taken → IsTaken reader bytes taken
+taken_by reader bytes c (Follows d) says so = subst (Says reader bytes) (sym so) says
+taken_by reader bytes c (Refused tag fault) says so = absurd so
+taken_by reader bytes c (Strange d) says so = subst (Says reader bytes) (sym so) says
+taken_by reader bytes c (Misplaced from line) says so = subst (Says reader bytes) so says
+taken_by reader bytes c (Unfit from line fault) says so = subst (Says reader bytes) so says
 
 module _ (bytes : List ℕ) (a b : Port) where
   -- a line is done as its command is
-  pub line_done : {E : Type 0} (c : Command) (r : Result Standing E) → Says bytes c
+  pub line_done : {E : Type 0} (c : Command) (r : Result Standing E) → Says (reader_of a.node) bytes c
       → IfOk r (λ s. (taken : Taken) × TakenAs c taken × PlaysAt taken s (spent s) a b)
-      → IfOk r (λ s. (taken : Taken) × IsTaken bytes taken × PlaysAt taken s (spent s) a b)
-  line_done c (Ok s) says P = (P.0, taken_by bytes c P.0 says P.1, P.2)
+      → IfOk r (λ s. (taken : Taken) × IsTaken (reader_of a.node) bytes taken × PlaysAt taken s (spent s) a b)
+  line_done c (Ok s) says P = (P.0, taken_by (reader_of a.node) bytes c P.0 says P.1, P.2)
   line_done c (Err e) says P = tt
 
   -- and then it is said where something waits
   pub line_waits : (s : Standing) (c : Port) → stand_of c ≡ stand_of b → Grows [] (waiting s b.node) b.output c.output
-      → (taken : Taken) × IsTaken bytes taken × PlaysAt taken s (spent s) a b
-      → (taken : Taken) × IsTaken bytes taken × PlaysAt taken s (spent s ++ waiting s c.node) a c
+      → (taken : Taken) × IsTaken (reader_of a.node) bytes taken × PlaysAt taken s (spent s) a b
+      → (taken : Taken) × IsTaken (reader_of a.node) bytes taken × PlaysAt taken s (spent s ++ waiting s c.node) a c
   line_waits s c same G P = (
     P.0,
     P.1,

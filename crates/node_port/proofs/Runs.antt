@@ -21,7 +21,8 @@ use Rattle.wire_end.specs.declared.line.LinkLine.{LinkLine}
 use Rattle.wire_end.specs.declared.wire_end.Wiring.{Wiring}
 use Rattle.wire_end.specs.Hearing.{HearsAt, LosesAt, laid_if, lost_where}
 use Rattle.wire_end.specs.Wirings.{place, wire_at, begun as begun_end}
-use Rattle.node_port.specs.Commands.{Taken, Follows, Refused, Strange, Misplaced, IsTaken}
+use Rattle.node_port.specs.Asking.{Reader, reader_of}
+use Rattle.node_port.specs.Commands.{Taken, Follows, Refused, Strange, Misplaced, Unfit, IsTaken}
 use Rattle.node_port.specs.Deeds.{Stand, IsAllTold, changes_by, replies_by}
 use Rattle.node_port.specs.Edits.{updates_of}
 use Rattle.node_port.specs.Playing.{Printed, asked, Gives, printed_out, said, spent, is_waiting, waiting, PlaysLine, MoreOnly, PlaysAll}
@@ -39,15 +40,16 @@ abbrev reads_by : Taken → List (ℕ × LinkLine)
 reads_by (Follows (Letter from line)) = (from, line) ∷ []
 reads_by _ = []
 
-one_read : (bytes : List ℕ) (taken : Taken) → IsTaken bytes taken → ReadsOne bytes (reads_by taken)
-one_read bytes (Follows (Letter from line)) h = h
-one_read bytes (Follows (Ask tag event)) h = tt
-one_read bytes (Follows (Steps tag)) h = tt
-one_read bytes (Follows (Down n)) h = tt
-one_read bytes (Follows Tick) h = tt
-one_read bytes (Refused tag fault) h = tt
-one_read bytes Strange h = tt
-one_read bytes (Misplaced from line) h = tt
+one_read : (reader : Reader) (bytes : List ℕ) (taken : Taken) → IsTaken reader bytes taken → ReadsOne bytes (reads_by taken)
+one_read reader bytes (Follows (Letter from line)) h = h
+one_read reader bytes (Follows (Ask tag event)) h = tt
+one_read reader bytes (Follows (Steps tag)) h = tt
+one_read reader bytes (Follows (Down n)) h = tt
+one_read reader bytes (Follows Tick) h = tt
+one_read reader bytes (Refused tag fault) h = tt
+one_read reader bytes (Strange command) h = tt
+one_read reader bytes (Misplaced from line) h = tt
+one_read reader bytes (Unfit from line fault) h = tt
 
 -- what a line gives to the node's end
 module _ (a b : Stand) (reads : List (ℕ × LinkLine)) (loop : b.loop ≡ a.loop) (node : b.end.node ≡ a.end.node) where
@@ -116,8 +118,13 @@ gives_lead (Follows (Down n)) a b G = lost_leads n a b G.0 G.1
 gives_lead (Follows (Steps tag)) a b G = nothing_given a b G
 gives_lead (Follows Tick) a b G = nothing_given a b G
 gives_lead (Refused tag fault) a b G = nothing_given a b G
-gives_lead Strange a b G = nothing_given a b G
+gives_lead (Strange (Letter from line)) a b G = nothing_given a b G.0
+gives_lead (Strange (Down n)) a b G = nothing_given a b G.0
+gives_lead (Strange (Ask tag event)) a b G = absurd G
+gives_lead (Strange (Steps tag)) a b G = absurd G
+gives_lead (Strange Tick) a b G = absurd G
 gives_lead (Misplaced from line) a b G = nothing_given a b G.0
+gives_lead (Unfit from line fault) a b G = nothing_given a b G.0
 
 -- what is printed goes out
 out_leads : (a : Stand) → Leads [] a.end.lines [] [] a (printed_out a)
@@ -140,8 +147,9 @@ module _ (log : Written) where
   said_given (Follows (Steps tag)) loop = All-cons (IsGiven log) _ [] tt (All-nil (IsGiven log))
   said_given (Follows Tick) loop = All-nil (IsGiven log)
   said_given (Refused tag fault) loop = All-cons (IsGiven log) _ [] tt (All-nil (IsGiven log))
-  said_given Strange loop = All-cons (IsGiven log) _ [] tt (All-nil (IsGiven log))
+  said_given (Strange command) loop = All-cons (IsGiven log) _ [] tt (All-nil (IsGiven log))
   said_given (Misplaced from line) loop = All-cons (IsGiven log) _ [] tt (All-nil (IsGiven log))
+  said_given (Unfit from line fault) loop = All-cons (IsGiven log) _ [] tt (All-nil (IsGiven log))
 
   spent_given : (s : Standing) → All (IsGiven log) (spent s)
   spent_given Runs = All-nil (IsGiven log)
@@ -215,7 +223,7 @@ comes_more : (l : List ℕ) (ls : List (List ℕ)) (s : Standing) (p : Printed) 
     → Comes ls rest b c → Comes (l ∷ ls) (p ∷ rest) a c
 comes_more l ls s p rest a b c L C = record {
   reads = reads_by L.taken ++ C.reads;
-  read = (reads_by L.taken, C.reads, refl, one_read l L.taken L.says, C.read);
+  read = (reads_by L.taken, C.reads, refl, one_read (reader_of a.loop) l L.taken L.says, C.read);
   leads = leads_on (reads_by L.taken) C.reads p.letters (all_letters rest) (updates_of p.changes) (all_updates rest) p.answers (all_answers rest)
       a b c (line_leads l s a p b L) C.leads;
   told = λ e. C.told (line_told l s a p b L e);

@@ -32,7 +32,7 @@ use Rattle.wire_end.specs.Hearing.{HearsAt, LosesAt, laid, laid_if, lost_where, 
 use Rattle.wire_end.specs.Wirings.{place, wire_at, new_wire, begun as begun_end, Posts, Refuses, Takes, Misses}
 use Rattle.wire_end.proofs.Dealing.{deals}
 use Rattle.wire_end.proofs.Places.{at-place}
-use Rattle.node_port.specs.Commands.{Taken, Follows, Refused, Strange, Misplaced}
+use Rattle.node_port.specs.Commands.{Taken, Follows, Refused, Strange, Misplaced, Unfit}
 use Rattle.node_port.specs.Deeds.{Stand, Deed, Turn, Show, Hand, Does, DoesAll, BreaksOff, goes_on, all_go_on, is_still}
 use Rattle.node_port.specs.Edits.{Edited, Stood}
 use Rattle.node_port.specs.Playing.{Printed, Gives, EndsFor, PlaysLine, MoreOnly, PlaysAll}
@@ -207,8 +207,13 @@ module _ (o : Opening) where
   gives_sound (Follows (Steps tag)) a b G S = subst (IsSoundAt o) (sym G) S
   gives_sound (Follows Tick) a b G S = subst (IsSoundAt o) (sym G) S
   gives_sound (Refused tag fault) a b G S = subst (IsSoundAt o) (sym G) S
-  gives_sound Strange a b G S = subst (IsSoundAt o) (sym G) S
+  gives_sound (Strange (Letter from line)) a b G S = subst (IsSoundAt o) (sym G.0) S
+  gives_sound (Strange (Down n)) a b G S = subst (IsSoundAt o) (sym G.0) S
+  gives_sound (Strange (Ask tag event)) a b G S = absurd G
+  gives_sound (Strange (Steps tag)) a b G S = absurd G
+  gives_sound (Strange Tick) a b G S = absurd G
   gives_sound (Misplaced from line) a b G S = subst (IsSoundAt o) (sym G.0) S
+  gives_sound (Unfit from line fault) a b G S = subst (IsSoundAt o) (sym G.0) S
 
   -- a line that is played
   line_sound : (bytes : List ℕ) (s : Standing) (a : Stand) (p : Printed) (b : Stand) → PlaysLine bytes s a p b → IsSoundAt o a → IsSoundIn s o b

@@ -11,6 +11,7 @@ use Rattle.letter_lines.specs.Grammar.{TextReads}
 use Rattle.letter_lines.specs.Laws.{PartsAreExact}
 use Rattle.wire_end.specs.declared.line.LinkLine.{LinkLine}
 use Rattle.node_port.specs.Numbers.{SpellsNumber, SpellsNoNumber}
+use Rattle.node_port.specs.Asking.{Reader}
 use Rattle.node_port.specs.Commands.{IsCut, HasNoCut, TellsLine, TellsNoLine, TellsNoPart, IsTagged, HasNoTag, Says, SaysNothing, Refuses, RefusedFor, IsRefused}
 use Rattle.node_port.specs.declared.commands.Command.{Command}
 use Rattle.node_port.specs.declared.commands.Refused.{Refused}
@@ -118,9 +119,9 @@ no_tag bytes front back cut none tag text t =
     (sym (cut_once bytes front back t.digits text cut (tag-cut bytes tag text t)).0) t.number)
 
 -- what a text says that can be read, its line says
-pub read_said : (bytes text : List ℕ) (r : Result Command Refused) → text ≡ bytes → unread bytes ≡ None
-    → MatchResult r (Says text) (λ refused. Refuses text refused.tag) → MatchResult r (Says bytes) (IsRefused bytes)
-read_said bytes text (Ok command) same e h = subst (λ (bs : List ℕ). Says bs command) same h
-read_said bytes text (Err refused) same e h =
+pub read_said : (reader : Reader) (bytes text : List ℕ) (r : Result Command Refused) → text ≡ bytes → unread bytes ≡ None
+    → MatchResult r (Says reader text) (λ refused. Refuses text refused.tag) → MatchResult r (Says reader bytes) (IsRefused bytes)
+read_said reader bytes text (Ok command) same e h = subst (λ (bs : List ℕ). Says reader bs command) same h
+read_said reader bytes text (Err refused) same e h =
     subst (λ (u : Option LineFault). RefusedFor u bytes refused) (sym e)
     (subst (λ (bs : List ℕ). Refuses bs refused.tag) same h)

@@ -6,7 +6,7 @@ use Rattle.std.proofs.lemmas.Bool.{and_from, and_parts, true≢false, false≢tr
 use Rattle.std.proofs.lemmas.Grind.{flat_map-append}
 use Rattle.std.proofs.lemmas.List.{map-append}
 use Rattle.std.proofs.lemmas.List.Folds.{list_all-append}
-use Rattle.command_lines.specs.declared.faults.LineFault.{LineFault}
+use Rattle.letter_lines.specs.declared.faults.LetterFault.{LetterFault}
 use Rattle.letter_lines.specs.declared.faults.LetterFault.TheVariants as letter
 use Rattle.node_loop.specs.declared.fault.TurnFault.{TurnFault}
 use Rattle.node_loop.specs.declared.fault.TurnFault.TheVariants.{StampsSpent, Memory}
@@ -19,7 +19,7 @@ use Rattle.wire_end.specs.declared.line.LinkLine.{LinkLine}
 use Rattle.wire_end.specs.declared.wire_end.Wiring.{Wiring}
 use Rattle.wire_end.specs.Hearing.{Hears, RefusesAt, Loses, LosesAt}
 use Rattle.wire_end.specs.Wirings.{place}
-use Rattle.node_port.specs.Commands.{Taken, Follows, Refused, Strange, Misplaced, TakenAs, is_done}
+use Rattle.node_port.specs.Commands.{Taken, Follows, Strange, Misplaced, Unfit, TakenAs, is_done}
 use Rattle.node_port.specs.Deeds.{Stand, Deed, Turn, Show, Hand, Does, DoesAll, BreaksOff, IsAllTold, change_by, changes_by, reply_by, replies_by, goes_on, all_go_on, is_still}
 use Rattle.node_port.specs.Edits.{Changed}
 use Rattle.node_port.specs.Playing.{Gives, EndsFor, IsMisplaced, said, spent, waiting}
@@ -199,44 +199,46 @@ module _ (a m b : Port) (loop : m.node ≡ a.node) (output : m.output ≡ a.outp
       subst (λ (x : Standing). PlaysAt (Misplaced from line) x (spent x) a b) (sym R.0)
       (answers (Misplaced from line) Broken [] a b (refl, subst (λ (x : Wiring). Hears from line (Err Gap) a.end x) e h) (same e) (refl, tt) (shown_so _ R.1))
 
-  heard_strange : (from : ℕ) (line : LinkLine) (s : Standing) → m.end ≡ a.end → RefusesFor NoSuchNode from line.number s m b
-      → PlaysAt Strange s (spent s) a b
-  heard_strange from line s e R =
-      subst (λ (x : Standing). PlaysAt Strange x (spent x) a b) (sym R.0)
-      (answers Strange Runs [] a b refl (same e) refl (shown_so _ R.1))
+  heard_strange : (from : ℕ) (line : LinkLine) (s : Standing) → Hears from line (Err NoSuchNode) a.end m.end
+      → RefusesFor NoSuchNode from line.number s m b → PlaysAt (Strange (Letter from line)) s (spent s) a b
+  heard_strange from line s h R =
+      let e : m.end ≡ a.end = unchanged NoSuchNode from line a.end m.end h (λ x. cc x) in
+      subst (λ (x : Standing). PlaysAt (Strange (Letter from line)) x (spent x) a b) (sym R.0)
+      (answers (Strange (Letter from line)) Runs [] a b (refl, subst (λ (x : Wiring). Hears from line (Err NoSuchNode) a.end x) e h) (same e) refl
+      (shown_so _ R.1))
 
-  heard_part : (f : _) (from : ℕ) (line : LinkLine) (s : Standing) → Hears from line (Err (Part f)) a.end m.end → RefusesFor (Part f) from line.number s m b
-      → (taken : Taken) × TakenAs (Letter from line) taken × PlaysAt taken s (spent s) a b
+  heard_part : (f : LetterFault) (from : ℕ) (line : LinkLine) (s : Standing) → Hears from line (Err (Part f)) a.end m.end
+      → RefusesFor (Part f) from line.number s m b → PlaysAt (Unfit from line f) s (spent s) a b
   heard_part f from line s h R =
-      let e : m.end ≡ a.end = unchanged (Part f) from line a.end m.end h (λ x. R.1 (cc x)) in (
-        Refused None R.2.0,
-        refl,
-        subst (λ (x : Standing). PlaysAt (Refused None R.2.0) x (spent x) a b) (sym R.0)
-            (answers (Refused None R.2.0) Runs [] a b refl (same e) refl (shown_so _ R.2.1)),
-      )
+      let e : m.end ≡ a.end = unchanged (Part f) from line a.end m.end h (λ x. R.1 (cc x)) in
+      subst (λ (x : Standing). PlaysAt (Unfit from line f) x (spent x) a b) (sym R.0)
+      (answers (Unfit from line f) Runs [] a b (refl, R.1, subst (λ (x : Wiring). Hears from line (Err (Part f)) a.end x) e h) (same e) refl
+      (shown_so _ R.2))
 
   -- a line of a link isn't taken
   pub not_heard : (fault : HearFault) (from : ℕ) (line : LinkLine) (s : Standing) → Hears from line (Err fault) a.end m.end
       → RefusesFor fault from line.number s m b → (taken : Taken) × TakenAs (Letter from line) taken × PlaysAt taken s (spent s) a b
   not_heard Gap from line s h R = (Misplaced from line, refl, heard_gap from line s h R)
-  not_heard NoSuchNode from line s h R = (Strange, refl, heard_strange from line s (unchanged NoSuchNode from line a.end m.end h (λ x. cc x)) R)
-  not_heard (Part f) from line s h R = heard_part f from line s h R
+  not_heard NoSuchNode from line s h R = (Strange (Letter from line), refl, heard_strange from line s h R)
+  not_heard (Part f) from line s h R = (Unfit from line f, refl, heard_part f from line s h R)
 
   -- the word that a node is gone isn't taken: there is no such node
   pub not_lost : (fault : HearFault) (node : ℕ) (s : Standing) → Loses node (Err fault) a.end m.end → RefusesFor fault node 0 s m b
       → (taken : Taken) × TakenAs (Down node) taken × PlaysAt taken s (spent s) a b
   not_lost fault node s h R = go (place node a.end.wires) h
     where
-      strange : fault ≡ NoSuchNode → m.end ≡ a.end → PlaysAt Strange s (spent s) a b
+      strange : fault ≡ NoSuchNode → m.end ≡ a.end → PlaysAt (Strange (Down node)) s (spent s) a b
       strange is e =
           let Q : RefusesFor NoSuchNode node 0 s m b = subst (λ (x : HearFault). RefusesFor x node 0 s m b) is R in
-          subst (λ (x : Standing). PlaysAt Strange x (spent x) a b) (sym Q.0)
-          (answers Strange Runs [] a b refl (same e) refl (shown_so _ Q.1))
+          let L : Loses node (Err NoSuchNode) a.end m.end = subst (λ (x : HearFault). Loses node (Err x) a.end m.end) is h in
+          subst (λ (x : Standing). PlaysAt (Strange (Down node)) x (spent x) a b) (sym Q.0)
+          (answers (Strange (Down node)) Runs [] a b (refl, subst (λ (x : Wiring). Loses node (Err NoSuchNode) a.end x) e L) (same e) refl
+          (shown_so _ Q.1))
 
       go : (at : Option ℕ) → LosesAt at node (Err fault) a.end m.end
           → (taken : Taken) × TakenAs (Down node) taken × PlaysAt taken s (spent s) a b
-      go None h = (Strange, refl, strange (cc (h.0)) h.1)
-      go (Some k) h = absurd ((subst (λ (x : HearFault). RefusesFor x node 0 s m b) h.0 R).1 refl)
+      go None l = (Strange (Down node), refl, strange (cc (l.0)) l.1)
+      go (Some k) l = absurd ((subst (λ (x : HearFault). RefusesFor x node 0 s m b) l.0 R).1 refl)
 
 -- and the last word of a line
 pub waits : (taken : Taken) (s : Standing) (more w : List Shown) (a b c : Port) → PlaysAt taken s more a b → stand_of c ≡ stand_of b

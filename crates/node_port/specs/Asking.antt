@@ -1,9 +1,14 @@
 -- What the words behind a tag ask of the node.
-use Rattle.std.specs.Prelude.{ℕ, Bool, true, false, ◌≡◌, ◌||◌, ◌⊎◌, bytes_eq, codes, if◌then◌else◌, take, List, [], ◌∷◌, Ok}
+use Rattle.std.specs.Prelude.{ℕ, Bool, true, false, ◌≡◌, ◌==◌, ◌||◌, ◌⊎◌, bytes_eq, codes, if◌then◌else◌, take, Option, Some, None, List, [], ◌∷◌, Ok}
+use Rattle.registry_model.specs.Process.{Process}
 use Rattle.protocol_model.specs.Event.{Event}
 use Rattle.protocol_model.specs.NamedEvents.{At, AtNode, Play}
 use Rattle.text_lines.specs.Words.{words}
 use Rattle.command_lines.specs.Grammar.{ScriptLine, Scripted, WordsAsk}
+use Rattle.command_lines.specs.Printing.{pid_text}
+use Rattle.node_loop.specs.Held.{Looping}
+use Rattle.term.specs.Nodes.{name_of}
+use Rattle.term.specs.Spelling.{name_bytes}
 
 -- a line that begins so names its node next in a script
 abbrev pub is_call_word : List ℕ → Bool
@@ -56,9 +61,28 @@ meant own (word ∷ text ∷ next ∷ texts) =
 meant own (word ∷ text ∷ []) = word ∷ meant_by own (process_first word) text ∷ []
 meant own ws = ws
 
--- A text asks a node for this event: by its first seven words, as no line has so many. No clause says which process was spawned last, which
--- `self` stands for
-pub record TextAsksFor (text : List ℕ) (event : Event) : Type 0 where
+-- by what a node reads: the text of its name, and what `self` stands for
+pub record Reader : Type 0 where
   pub node : List ℕ
   pub own : List ℕ
-  pub asks : WordsAskFor node (meant own (take 7 (words text))) event
+
+-- the process that was spawned last, or the word itself where none was
+abbrev pub own_bytes : Option Process → List ℕ
+own_bytes None = codes "self"
+own_bytes (Some process) = pid_text process
+
+-- the process of a node with its last serial, if it has spawned one
+abbrev pub last_process : ℕ → ℕ → Option Process
+last_process node serial = if serial == 0 then None else Some (record { node = node; serial = serial })
+
+-- by what a node of this name reads where this process was spawned last
+abbrev pub reads_as : ℕ → Option Process → Reader
+reads_as name last = record { node = name_bytes name; own = own_bytes last }
+
+-- by what the loop of a node reads
+abbrev pub reader_of : Looping → Reader
+reader_of a = reads_as (name_of a.log.node) (last_process a.log.node a.core.watch.watch.last_serial)
+
+-- a text asks a node for this event: by its first seven words, as no line has so many
+abbrev pub TextAsksFor : Reader → List ℕ → Event → Type 0
+TextAsksFor reader text event = WordsAskFor reader.node (meant reader.own (take 7 (words text))) event

@@ -8,8 +8,9 @@ use Rattle.command_lines.specs.declared.Event.{Event}
 use Rattle.command_lines.specs.declared.faults.LineFault.{LineFault}
 use Rattle.letter_lines.specs.Grammar.{TextReads}
 use Rattle.letter_lines.specs.declared.part.Part.{Part}
+use Rattle.letter_lines.specs.declared.faults.LetterFault.{LetterFault}
 use Rattle.wire_end.specs.declared.line.LinkLine.{LinkLine}
-use Rattle.node_port.specs.Asking.{TextAsksFor}
+use Rattle.node_port.specs.Asking.{Reader, TextAsksFor}
 use Rattle.node_port.specs.Numbers.{SpellsNumber}
 use Rattle.node_port.specs.declared.commands.Command.{Command}
 use Rattle.node_port.specs.declared.commands.Command.TheVariants.{Ask, Steps, Letter, Down, Tick}
@@ -75,20 +76,20 @@ pub record AsksUnder (bytes : List ℕ) (tag : ℕ) : Type 0 where
   pub tagged : IsTagged bytes tag text
   pub asks : text ≢ codes "steps"
 
--- this event is
-pub record AsksFor (bytes : List ℕ) (tag : ℕ) (event : Event) : Type 0 where
+-- this event is, as this node reads it
+pub record AsksFor (reader : Reader) (bytes : List ℕ) (tag : ℕ) (event : Event) : Type 0 where
   pub text : List ℕ
   pub tagged : IsTagged bytes tag text
   pub asks : text ≢ codes "steps"
-  pub event_is : TextAsksFor text (own_event_of event)
+  pub event_is : TextAsksFor reader text (own_event_of event)
 
--- what a command says of its line
-abbrev pub Says : List ℕ → Command → Type 0
-Says bytes (Ask tag event) = AsksFor bytes tag event
-Says bytes (Steps tag) = IsTagged bytes tag (codes "steps")
-Says bytes (Letter from line) = IsLinkLine bytes from line
-Says bytes (Down node) = IsDownLine bytes node
-Says bytes Tick = bytes ≡ codes "tick"
+-- what a command says of its line, as this node reads it
+abbrev pub Says : Reader → List ℕ → Command → Type 0
+Says reader bytes (Ask tag event) = AsksFor reader bytes tag event
+Says reader bytes (Steps tag) = IsTagged bytes tag (codes "steps")
+Says reader bytes (Letter from line) = IsLinkLine bytes from line
+Says reader bytes (Down node) = IsDownLine bytes node
+Says reader bytes Tick = bytes ≡ codes "tick"
 
 -- they are none of the lines that have no tag
 pub record SaysNothing (bytes : List ℕ) : Type 0 where
@@ -109,31 +110,30 @@ RefusedFor None bytes refused = Refuses bytes refused.tag
 abbrev pub IsRefused : List ℕ → ARefused → Type 0
 IsRefused bytes refused = RefusedFor (unread bytes) bytes refused
 
--- how a line is taken: what it says is done; or it is refused, under a tag or under none; or it is of no other node of the world; or it
--- isn't the next line of its link
+-- how a line is taken: what it says is done; or it says nothing, and is refused, under a tag or under none; or it is of no other node of the
+-- world; or it is a line of a link that isn't the next of it, or that says no part of the letter which those before it began
 pub data Taken : Type 0 where
   Follows : (command : Command) → Taken
   Refused : (tag : Option ℕ) (fault : LineFault) → Taken
-  Strange : Taken
+  Strange : (command : Command) → Taken
   Misplaced : (from : ℕ) (line : LinkLine) → Taken
+  Unfit : (from : ℕ) (line : LinkLine) (fault : LetterFault) → Taken
 
 -- a line that is taken so says so
-abbrev pub IsTaken : List ℕ → Taken → Type 0
-IsTaken bytes (Follows command) = Says bytes command
-IsTaken bytes (Misplaced from line) = IsLinkLine bytes from line
-IsTaken bytes _ = Unit {0}
+abbrev pub IsTaken : Reader → List ℕ → Taken → Type 0
+IsTaken reader bytes (Follows command) = Says reader bytes command
+IsTaken reader bytes (Refused tag fault) = IsRefused bytes (record { tag = tag; fault = fault })
+IsTaken reader bytes (Strange command) = Says reader bytes command
+IsTaken reader bytes (Misplaced from line) = IsLinkLine bytes from line
+IsTaken reader bytes (Unfit from line fault) = IsLinkLine bytes from line
 
--- another node tells it, or somebody tells it of another node
-abbrev pub is_of_another : Command → Bool
-is_of_another (Letter from line) = true
-is_of_another (Down node) = true
-is_of_another _ = false
-
--- how a command may be taken: it is done, unless it is of another node
+-- how a command may be taken
 abbrev pub TakenAs : Command → Taken → Type 0
 TakenAs c (Follows d) = d ≡ c
+TakenAs c (Refused tag fault) = ⊥
+TakenAs c (Strange d) = d ≡ c
 TakenAs c (Misplaced from line) = c ≡ Letter from line
-TakenAs c _ = is_of_another c ≡ true
+TakenAs c (Unfit from line fault) = c ≡ Letter from line
 
 -- something is done for it
 abbrev pub is_done : Taken → Bool

@@ -1,14 +1,16 @@
 -- What the lines come to that a node reads, one behind the other.
-use Rattle.std.specs.Prelude.{ℕ, Bool, true, false, ◌≡◌, map, length, List, [], ◌∷◌, ◌++◌, Some, Ok, Err, if◌then◌else◌}
+use Rattle.std.specs.Prelude.{ℕ, Bool, true, false, ◌≡◌, ◌≢◌, map, length, List, [], ◌∷◌, ◌++◌, Some, None, Ok, Err, if◌then◌else◌}
+use Rattle.letter_lines.specs.declared.faults.LetterFault.TheVariants.{Memory}
 use Rattle.node_loop.specs.declared.Event.{Event}
 use Rattle.node_loop.specs.declared.item.Task.{Task}
 use Rattle.node_loop.specs.Held.{Looping, owes}
-use Rattle.wire_end.specs.declared.faults.HearFault.TheVariants.{Gap}
+use Rattle.wire_end.specs.declared.faults.HearFault.TheVariants.{Gap, NoSuchNode, Part}
 use Rattle.wire_end.specs.Hearing.{Hears, Loses}
-use Rattle.node_port.specs.Commands.{Taken, Follows, Refused, Strange, Misplaced, IsTaken, is_done}
+use Rattle.node_port.specs.Asking.{reader_of}
+use Rattle.node_port.specs.Commands.{Taken, Follows, Refused, Strange, Misplaced, Unfit, IsTaken, is_done}
 use Rattle.node_port.specs.Deeds.{Stand, Deed, DoesAll, BreaksOff, IsAllTold, changes_by, replies_by, all_go_on}
 use Rattle.node_port.specs.Edits.{Changed, changed_lines}
-use Rattle.node_port.specs.Shown.{Shown, Tells, Counts, Gaps, Misses, Waits, Spends, shown_lines}
+use Rattle.node_port.specs.Shown.{Shown, Tells, Counts, Gaps, Misses, Waits, Spends, line_fault_of, shown_lines}
 use Rattle.node_port.specs.Shown as shown
 use Rattle.node_port.specs.declared.commands.Command.TheVariants.{Ask, Steps, Letter, Down, Tick}
 use Rattle.node_port.specs.declared.port.Standing.{Standing}
@@ -18,19 +20,25 @@ use Rattle.node_port.specs.declared.port.Standing.TheVariants.{Runs, HasLeft, Br
 abbrev pub asked : ℕ → Event → Task
 asked tag event = record { ticket = Some (record { seat = 0; slot = 0; number = tag }); event = event }
 
--- what a line that is taken so gives to the node's end: a task, a line of a link, or the word that a node is gone; any other nothing
+-- what a line that is taken so gives to the node's end: a task, a line of a link, or the word that a node is gone; any other nothing. The end
+-- knows no such node, or takes a line of a link neither where it isn't the next, nor where its part fits no letter that was begun
 abbrev pub Gives : Taken → Stand → Stand → Type 0
 Gives (Follows (Ask tag event)) a b = (b.loop ≡ a.loop) × (b.end ≡ record a.end { tasks = a.end.tasks ++ asked tag event ∷ [] })
 Gives (Follows (Letter from line)) a b = (b.loop ≡ a.loop) × Hears from line (Ok tt) a.end b.end
 Gives (Follows (Down node)) a b = (b.loop ≡ a.loop) × Loses node (Ok tt) a.end b.end
 Gives (Misplaced from line) a b = (b ≡ a) × Hears from line (Err Gap) a.end a.end
+Gives (Unfit from line fault) a b = (b ≡ a) × (fault ≢ Memory) × Hears from line (Err (Part fault)) a.end a.end
+Gives (Strange (Letter from line)) a b = (b ≡ a) × Hears from line (Err NoSuchNode) a.end a.end
+Gives (Strange (Down node)) a b = (b ≡ a) × Loses node (Err NoSuchNode) a.end a.end
+Gives (Strange command) a b = ⊥
 Gives _ a b = b ≡ a
 
 -- what it is answered by besides the loop's replies
 abbrev pub said : Taken → Looping → List Shown
 said (Follows (Steps tag)) loop = Counts tag (length loop.log.entries) ∷ []
 said (Refused tag fault) loop = shown.Refuses tag fault ∷ []
-said Strange loop = Misses ∷ []
+said (Strange command) loop = Misses ∷ []
+said (Unfit from line fault) loop = shown.Refuses None (line_fault_of fault) ∷ []
 said (Misplaced from line) loop = Gaps from line.number ∷ []
 said _ loop = []
 
@@ -85,7 +93,7 @@ printed_out a = record a { end = record a.end { lines = []; orders = [] } }
 -- changes nothing
 pub record PlaysLine (bytes : List ℕ) (standing : Standing) (a : Stand) (p : Printed) (b : Stand) : Type 0 where
   pub taken : Taken
-  pub says : IsTaken bytes taken
+  pub says : IsTaken (reader_of a.loop) bytes taken
   pub first : Stand
   pub gives : Gives taken a first
   pub deeds : List Deed

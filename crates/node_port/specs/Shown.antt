@@ -5,6 +5,9 @@ use Rattle.registry_model.specs.Process.{Process, Text}
 use Rattle.term.specs.NodeLists.{list_of_nodes}
 use Rattle.term.specs.Spelling.{bytes_of, node_bytes}
 use Rattle.command_lines.specs.declared.faults.LineFault.{LineFault}
+use Rattle.command_lines.specs.declared.faults.LineFault.TheVariants as line
+use Rattle.letter_lines.specs.declared.faults.LetterFault.{LetterFault}
+use Rattle.letter_lines.specs.declared.faults.LetterFault.TheVariants as letter
 use Rattle.command_lines.specs.Printing.{ended, pid_text, reply_text, step_word, word_of}
 use Rattle.node_loop.specs.declared.replies.TaskFault.{TaskFault}
 use Rattle.node_loop.specs.declared.replies.TaskFault.TheVariants.{NoSuchNode, NodeLeft, Step}
@@ -48,6 +51,12 @@ standing_word false = codes "lone"
 abbrev pub tag_text : Option ℕ → List ℕ
 tag_text None = []
 tag_text (Some tag) = decimal tag ++ 32 ∷ []
+
+-- the fault of a line that says this part of no letter
+abbrev pub line_fault_of : LetterFault → LineFault
+line_fault_of letter.BadLine = line.BadLine
+line_fault_of (letter.Text fault) = line.Text fault
+line_fault_of letter.Memory = line.Memory
 
 -- the text of a line
 abbrev pub shown_text : Shown → List ℕ

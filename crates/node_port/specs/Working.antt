@@ -2,7 +2,6 @@
 use Rattle.std.specs.Prelude.{ℕ, true, false, ◌≡◌, ◌≢◌, ◌⊎◌, map, flat_map, string_bytes, codes, bytes_eq, Bool, List, [], ◌∷◌, ◌++◌, Option, Some, None, Result, Ok, Err, if◌then◌else◌}
 use Rattle.std.specs.List.{list_all}
 use Rattle.std.specs.Io.KnownBytes.{Appends, Consumes, Keeps}
-use Rattle.command_lines.specs.declared.faults.LineFault.{LineFault}
 use Rattle.letter_lines.specs.declared.faults.LetterFault.TheVariants as letter
 use Rattle.text_lines.specs.declared.lines.Line.{Line}
 use Rattle.text_lines.specs.Lines.{IsKept, LosesLines, LosesInto, LosesWithinLine, HasNoLine}
@@ -18,7 +17,7 @@ use Rattle.node_port.specs.Deeds.{Stand, Deed, DoesAll, BreaksOff, IsAllTold, ch
 use Rattle.node_port.specs.Edits.{Changed, changed_lines}
 use Rattle.node_port.specs.Playing.{Gives, Printed, PlaysLine, PlaysAll, EndsFor, said, spent, printed_text}
 use Rattle.node_port.specs.Ran.{Ends, first_text, opened_so}
-use Rattle.node_port.specs.Shown.{Shown, Tells, Gaps, Misses, Spends, shown_lines}
+use Rattle.node_port.specs.Shown.{Shown, Tells, Gaps, Misses, Spends, line_fault_of, shown_lines}
 use Rattle.node_port.specs.Shown as shown
 use Rattle.node_port.specs.declared.output.Output.{Output}
 use Rattle.node_port.specs.declared.port.Port.{Port}
@@ -94,7 +93,7 @@ abbrev pub RefusesFor : HearFault → ℕ → ℕ → Standing → Port → Port
 RefusesFor Gap from number standing a b = (standing ≡ Broken) × Grows [] (Gaps from number ∷ []) a.output b.output
 RefusesFor NoSuchNode from number standing a b = (standing ≡ Runs) × Grows [] (Misses ∷ []) a.output b.output
 RefusesFor (Part f) from number standing a b =
-    (standing ≡ Runs) × (f ≢ letter.Memory) × ((fault : LineFault) × Grows [] (shown.Refuses None fault ∷ []) a.output b.output)
+    (standing ≡ Runs) × (f ≢ letter.Memory) × Grows [] (shown.Refuses None (line_fault_of f) ∷ []) a.output b.output
 
 -- a line is done at a node, or refused, and that is to be printed, and this behind it
 pub record PlaysAt (taken : Taken) (standing : Standing) (more : List Shown) (a b : Port) : Type 0 where

@@ -1,13 +1,14 @@
 //! What the lines that come in say.
-ghost use Rattle.std.specs.Prelude.{◌≡◌, ◌≢◌, ◌++◌, ℕ, List, Ok, IfOk, MatchOption, MatchResult, bytes_eq, codes, map, take};
+ghost use Rattle.std.specs.Prelude.{◌≡◌, ◌≢◌, ◌++◌, ℕ, List, Ok, IfOk, MatchOption, MatchResult, bytes_eq, codes, map, option_copied, string_bytes, take};
 ghost use Rattle.text_lines.specs.Lines.{IsKept};
 ghost use Rattle.text_lines.specs.Words.{words as words_in};
 ghost use Rattle.command_lines.specs.Commands.{line_in};
 ghost use Rattle.command_lines.specs.Events.{own_event_of};
 ghost use Rattle.command_lines.specs.Grammar.{WordsAsk};
 ghost use Rattle.letter_lines.specs.Grammar.{TextReads};
-ghost use Rattle.node_port.specs.Asking.{AsksAsScript, IsAsked, TextAsksFor, WordsAskFor, begins_as, is_call_word as any_call_word, meant, meant_by, process_first, process_second, with_node};
+ghost use Rattle.node_port.specs.Asking.{AsksAsScript, IsAsked, Reader, TextAsksFor, WordsAskFor, begins_as, is_call_word as any_call_word, meant, meant_by, own_bytes, reads_as, process_first, process_second, with_node};
 ghost use Rattle.node_port.specs.Numbers.{SpellsNumber, SpellsNoNumber};
+ghost use Rattle.node_port.specs.Shown.{line_fault_of};
 ghost use Rattle.node_port.specs.Commands.{IsCut, HasNoCut, TellsLine, TellsNoLine, TellsNoPart, IsTagged, HasNoTag, Says, SaysNothing, Refuses, IsRefused};
 
 use crate::numbers::parse_number;
@@ -154,7 +155,9 @@ fn spell_own<'a>(words: &mut [&'a str], own: &'a str)
 }
 
 /// The text of the process that was spawned last, or `self` where none was.
-fn own_text(alloc: Global, own: Option<&Pid>) -> Result<String, AllocError> {
+fn own_text(alloc: Global, own: Option<&Pid>) -> Result<String, AllocError>
+    ensures { IfOk result (λ text. string_bytes text ≡ own_bytes (option_copied own.entry)) }
+{
     match own {
         Some(process) => format!(in alloc; "{process}"),
         None => String::from_str(alloc, "self"),
@@ -172,7 +175,7 @@ fn meant_words<'a>(text: &'a str, own: &'a str) -> ArrayVec<&'a str, MOST_WORDS>
 
 /// What the text behind a tag asks of the node of this name, where a process of this text was spawned last.
 fn read_meant(alloc: Global, text: &str, own: &str, node: &str) -> Result<Event, LineFault>
-    ensures { IfOk result (λ event. TextAsksFor text.now (own_event_of event)) }
+    ensures { IfOk result (λ event. TextAsksFor (record { node = node.now; own = own.now }) text.now (own_event_of event)) }
 {
     read_event(alloc, &meant_words(text, own), node)
 }
@@ -184,7 +187,7 @@ fn read_asked(
     own: Option<&Pid>,
     node: &NodeName,
 ) -> Result<Event, LineFault>
-    ensures { IfOk result (λ event. TextAsksFor text.now (own_event_of event)) }
+    ensures { IfOk result (λ event. TextAsksFor (reads_as node.now (option_copied own.entry)) text.now (own_event_of event)) }
 {
     let own = own_text(alloc, own)?;
     read_meant(alloc, text, own.as_str(), node.as_str())
@@ -198,7 +201,8 @@ fn read_tagged(
     own: Option<&Pid>,
     node: &NodeName,
 ) -> Result<Command, LineFault>
-    ensures { (bytes : List ℕ) → IsTagged bytes tag text.now → MatchResult result (Says bytes) (λ _. text.now ≢ codes "steps") }
+    ensures { (bytes : List ℕ) → IsTagged bytes tag text.now
+        → MatchResult result (Says (reads_as node.now (option_copied own.entry)) bytes) (λ _. text.now ≢ codes "steps") }
 {
     if text == "steps" {
         return Ok(Command::Steps(tag));
@@ -207,7 +211,9 @@ fn read_tagged(
 }
 
 /// The fault of a line that says this part of no letter.
-pub(crate) fn line_fault(fault: LetterFault) -> LineFault {
+pub(crate) fn line_fault(fault: LetterFault) -> LineFault
+    ensures { result ≡ line_fault_of fault }
+{
     match fault {
         LetterFault::BadLine => LineFault::BadLine,
         LetterFault::Text(fault) => LineFault::Text(fault),
@@ -266,7 +272,7 @@ fn read_link_line(text: &str) -> Result<LinkLine, LineFault>
 
 /// What a line of a link says, behind its word.
 fn read_letter(text: &str) -> Result<Command, LineFault>
-    ensures { (bytes : List ℕ) → bytes ≡ codes "letter " ++ text.now → MatchResult result (Says bytes) (λ _. SaysNothing bytes) }
+    ensures { (reader : Reader) (bytes : List ℕ) → bytes ≡ codes "letter " ++ text.now → MatchResult result (Says reader bytes) (λ _. SaysNothing bytes) }
 {
     let (from, rest) = cut_at_space(text)?;
     let from = parse_node(from)?;
@@ -282,7 +288,7 @@ fn behind_letter(text: &str) -> Option<&str>
 
 /// What a line says that a node is gone, behind its word.
 fn read_down(text: &str) -> Result<Command, LineFault>
-    ensures { (bytes : List ℕ) → bytes ≡ codes "down " ++ text.now → MatchResult result (Says bytes) (λ _. SaysNothing bytes) }
+    ensures { (reader : Reader) (bytes : List ℕ) → bytes ≡ codes "down " ++ text.now → MatchResult result (Says reader bytes) (λ _. SaysNothing bytes) }
 {
     Ok(Command::Down(parse_node(text)?))
 }
@@ -296,7 +302,7 @@ fn behind_down(text: &str) -> Option<&str>
 
 /// What a line says that has no tag.
 fn read_untagged(text: &str) -> Result<Command, LineFault>
-    ensures { MatchResult result (Says text.now) (λ _. SaysNothing text.now) }
+    ensures { (reader : Reader) → MatchResult result (Says reader text.now) (λ _. SaysNothing text.now) }
 {
     if let Some(rest) = behind_letter(text) {
         return read_letter(rest);
@@ -334,7 +340,7 @@ fn read_text(
     own: Option<&Pid>,
     node: &NodeName,
 ) -> Result<Command, Refused>
-    ensures { MatchResult result (Says text.now) (λ refused. Refuses text.now refused.tag) }
+    ensures { MatchResult result (Says (reads_as node.now (option_copied own.entry)) text.now) (λ refused. Refuses text.now refused.tag) }
 {
     match split_tag(text) {
         Some((tag, rest)) => match read_tagged(alloc, tag, rest, own, node) {
@@ -355,7 +361,8 @@ pub(crate) fn read_command(
     own: Option<&Pid>,
     node: &NodeName,
 ) -> Result<Command, Refused>
-    ensures { (bytes : List ℕ) → IsKept bytes line.now → MatchResult result (Says bytes) (IsRefused bytes) }
+    ensures { (bytes : List ℕ) → IsKept bytes line.now
+        → MatchResult result (Says (reads_as node.now (option_copied own.entry)) bytes) (IsRefused bytes) }
 {
     match text_of(line) {
         Ok(text) => read_text(alloc, text, own, node),

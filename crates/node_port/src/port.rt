@@ -2,9 +2,10 @@
 ghost use Rattle.std.specs.Prelude.{◌≡◌, ◌∷◌, [], true, Some, IfOk, if◌then◌else◌};
 ghost use Rattle.std.specs.List.{All};
 ghost use Rattle.term.specs.NodeSets.{set_of};
-ghost use Rattle.term.specs.Nodes.{IsFirst};
+ghost use Rattle.term.specs.Nodes.{IsFirst, name_of};
 ghost use Rattle.node_loop.specs.Coming.{begun};
 ghost use Rattle.wire_end.specs.Wirings.{begun as begun_end};
+ghost use Rattle.node_port.specs.Asking.{last_process as last_process_of};
 ghost use Rattle.node_port.specs.Playing.{asked};
 ghost use Rattle.node_port.specs.Ran.{core_of, opened_so};
 ghost use Rattle.node_port.specs.Working.{stands_behind, stand_of, IsEmpty};
@@ -139,12 +140,16 @@ impl Port {
     }
 
     /// The name of the node.
-    pub(crate) fn name(&self) -> NodeName {
+    pub(crate) fn name(&self) -> NodeName
+        ensures { result ≡ name_of self.now.node.log.node }
+    {
         self.node.node().name().copy()
     }
 
     /// The process that was spawned last, if one was.
-    pub(crate) fn last_process(&self) -> Option<Pid> {
+    pub(crate) fn last_process(&self) -> Option<Pid>
+        ensures { result ≡ last_process_of self.now.node.log.node self.now.node.core.watch.watch.last_serial }
+    {
         let serial = self.node.numbers().serials;
         if serial == 0 {
             return None;

@@ -6,6 +6,7 @@ ghost use Rattle.std.specs.Io.KnownBytes.{Keeps};
 ghost use Rattle.text_lines.specs.Lines.{IsKept};
 ghost use Rattle.term.specs.Nodes.{IsFirst};
 ghost use Rattle.term.specs.NodeSets.{set_of};
+ghost use Rattle.node_port.specs.Asking.{reader_of};
 ghost use Rattle.node_port.specs.Commands.{Taken, IsTaken};
 ghost use Rattle.node_port.specs.Playing.{spent, waiting};
 ghost use Rattle.node_port.specs.Ran.{opened_so, Ends, NodeRan, NodeStopped};
@@ -37,7 +38,7 @@ fn next_line<R: Read, W: Write>(
 /// Does what a line says, or refuses it: how the node stands behind it.
 fn take_line(alloc: Global, port: &mut Port, line: &Line) -> Result<Standing, AllocError>
     ensures { (bytes : List ℕ) → IsKept bytes line.now → IfOk result
-        (λ standing. (taken : Taken) × IsTaken bytes taken × PlaysAt taken standing (spent standing) port.old port.new) }
+        (λ standing. (taken : Taken) × IsTaken (reader_of port.old.node) bytes taken × PlaysAt taken standing (spent standing) port.old port.new) }
 {
     let own = port.last_process();
     let node = port.name();
@@ -53,7 +54,7 @@ fn take_line(alloc: Global, port: &mut Port, line: &Line) -> Result<Standing, Al
 /// The same, and says where something waits to be tried again.
 fn do_line(alloc: Global, port: &mut Port, line: &Line) -> Result<Standing, AllocError>
     ensures { (bytes : List ℕ) → IsKept bytes line.now → IfOk result
-        (λ standing. (taken : Taken) × IsTaken bytes taken
+        (λ standing. (taken : Taken) × IsTaken (reader_of port.old.node) bytes taken
         × PlaysAt taken standing (spent standing ++ waiting standing port.new.node) port.old port.new) }
 {
     let standing = take_line(alloc, port, line)?;

@@ -1,7 +1,7 @@
 use Rattle.node_port.proofs.commands.read_untagged.Goals as goal
 
 pub returns-in-Some : goal.returns-in-Some
-returns-in-Some c = c.read_letter.ensures c.args.text.now c.in-Some.ensures
+returns-in-Some c = λ reader. c.read_letter.ensures reader c.args.text.now c.in-Some.ensures
 
 pub returns-in-Some-behind_down : goal.returns-in-Some-behind_down
-returns-in-Some-behind_down c = c.read_down.ensures c.args.text.now c.in-Some-behind_down.ensures
+returns-in-Some-behind_down c = λ reader. c.read_down.ensures reader c.args.text.now c.in-Some-behind_down.ensures

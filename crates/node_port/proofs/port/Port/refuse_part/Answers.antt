@@ -1,5 +1,7 @@
-use Rattle.std.proofs.Common.{None, refl}
+use Rattle.std.proofs.Common.{None, [], ◌∷◌, refl, subst}
+use Rattle.command_lines.specs.declared.faults.LineFault.{LineFault}
 use Rattle.node_port.specs.Shown.{Refuses}
+use Rattle.node_port.specs.Working.{Grows}
 use Rattle.node_port.proofs.Growing.{grows_answer}
 use Rattle.node_port.proofs.port.Port.refuse_part.Goals as goal
 
@@ -9,8 +11,6 @@ returns-in_ok-push_refusal-in_default-clause-refused c = λ from number.
     let b = record a { output = record a.output { answers = c.push_refusal.new.text } } in (
       refl,
       c.in_default.not-Memory,
-      (
-        c.line_fault.result,
-        grows_answer (Refuses None c.line_fault.result) a.output b.output refl c.in_ok-push_refusal-in_default.ensures,
-      ),
+      subst (λ (f : LineFault). Grows [] (Refuses None f ∷ []) a.output b.output) c.line_fault.ensures
+          (grows_answer (Refuses None c.line_fault.result) a.output b.output refl c.in_ok-push_refusal-in_default.ensures),
     )
