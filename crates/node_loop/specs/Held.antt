@@ -7,7 +7,8 @@ use Rattle.protocol_model.specs.Event.{can_retry}
 use Rattle.node_log.specs.declared.Letter.{Letter}
 use Rattle.node_log.specs.NodeCoreHeld.{Held}
 use Rattle.node_log.specs.NodeCoreSeen.{node_of}
-use Rattle.tray.specs.Held.{Waiting, with_letter}
+use Rattle.tray.specs.Held.{Waiting, with_letter, renewed}
+use Rattle.term.specs.NodeSets.{succeeded}
 use Rattle.node_log.specs.Entries.{Entry, Logged}
 use Rattle.node_loop.specs.declared.item.Item.{Item}
 use Rattle.node_loop.specs.declared.item.Item.TheVariants.{Letter as LetterItem}
@@ -33,6 +34,14 @@ pub record Looping : Type 0 where
   pub owed : Owed  -- what readers are still to be shown
   pub left : Bool
   pub worked : Bool  -- the last turn took an item or tried a step
+
+-- the next node of a name takes the place of the one before it, in the world and in the tray: no letter waits for it
+abbrev pub with_next : ℕ → ℕ → Looping → Looping
+with_next older next a = record a {
+  core = record a.core { world = succeeded older next a.core.world };
+  world = succeeded older next a.core.world;
+  tray = renewed older next a.tray;
+}
 
 -- a refused round waits to be tried again
 abbrev pub has_retry : Looping → Bool

@@ -21,3 +21,4 @@ pub mod Dealings
 pub mod Said
 pub mod Sound
 pub mod Telling
+pub mod Returning

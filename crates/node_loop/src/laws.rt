@@ -2,6 +2,7 @@
 ghost use Rattle.node_loop.specs.Answers.{AnswersAreLogged};
 ghost use Rattle.node_loop.specs.Left.{LeavesAreLogged};
 ghost use Rattle.node_loop.specs.Telling.{ThreadsAreConsistent};
+ghost use Rattle.node_loop.specs.Returning.{StartsKeepSound};
 
 /// What the loops of a world's nodes leave behind is consistent, if each was sound and took a beginning of what each other one sent it.
 pub fn threads_are_consistent()
@@ -16,4 +17,10 @@ pub fn told_leaves_are_logged()
 /// A loop tells somebody an answer only where its log has a step that gives it, with the stamp that is told.
 pub fn told_answers_are_logged()
     ensures { AnswersAreLogged }
+{}
+
+/// That the next node of another one's name has started is no step of a node: where its loop takes it in the place of the one before it, and the
+/// two were told apart, it stays sound.
+pub fn starts_keep_sound()
+    ensures { StartsKeepSound }
 {}

@@ -5,7 +5,7 @@ use Rattle.std.specs.List.Sorted.{IsStrictlyIncreasing}
 use Rattle.term.specs.declared.faults.TextFault.{TextFault}
 use Rattle.term.specs.declared.faults.TextFault.TheVariants.{Empty, TooLong, BadByte, BadCreation, BadSerial, BadRule, TooManyNodes}
 use Rattle.term.specs.NodeSets.{set_of, most_nodes}
-use Rattle.term.specs.Spelling.{IsText, SpellsNodeName, RefusesText, name_bytes, node_bytes}
+use Rattle.term.specs.Spelling.{IsText, SpellsNode, SpellsNodeName, RefusesText, name_bytes, node_bytes}
 
 -- a comma, which parts the names of a list
 abbrev pub comma : ℕ
@@ -57,3 +57,11 @@ list_of names = join_by name_bytes (comma ∷ []) names
 -- the bytes that list these nodes
 abbrev pub list_of_nodes : List ℕ → List ℕ
 list_of_nodes nodes = join_by node_bytes (comma ∷ []) nodes
+
+-- the bytes spell a set of nodes, of whatever creations: each part spells a node, and the set has these, each once, rising, and not too many
+pub record SpellsNodeSet (bytes nodes : List ℕ) : Type 0 where
+  pub named : List ℕ
+  pub spelled : AllZip SpellsNode (parts_of bytes) named
+  pub rising : IsStrictlyIncreasing nodes
+  pub has : (c : ℕ) → set_of nodes c ≡ set_of named c
+  pub fits : length nodes ≤ most_nodes
