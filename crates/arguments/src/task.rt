@@ -3,7 +3,7 @@ ghost use Rattle.std.specs.Prelude.{option_map, string_bytes};
 ghost use Rattle.arguments.specs.Together.{Clashes, NamesSocket};
 
 use crate::faults::OptionFault;
-use term::{NodeName, NodeNames};
+use term::{Node, NodeNames};
 
 /// What the address begins with where it is the path of a socket.
 const SOCKET: &str = "unix:";
@@ -25,9 +25,9 @@ pub enum Task {
 /// What `node` is told.
 #[derive(Debug, Drop)]
 pub struct NodeOptions {
-    /// The node, which is one of the world.
-    pub node: NodeName,
-    /// All nodes of the world.
+    /// The node, whose name is one of the world's. It may be a later one of that name.
+    pub node: Node,
+    /// All names of the world.
     pub world: NodeNames,
 }
 

@@ -30,7 +30,7 @@ pub use name::{Name, parse_name, print_name};
 pub use node::{Node, parse_node, print_node};
 pub use node_name::{NodeName, parse_node_name, print_node_name};
 pub use node_names::{NodeNames, parse_nodes, print_nodes};
-pub use node_set::{MOST_NODES, NodeSet};
+pub use node_set::{MOST_NODES, NodeSet, parse_node_set};
 pub use pid::{Pid, parse_pid, print_pid};
 pub use requester::{Requester, parse_requester, print_requester};
 pub use resource::{Resource, parse_resource, print_resource};
