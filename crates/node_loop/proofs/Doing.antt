@@ -51,7 +51,7 @@ says world alone a c (s ∷ ss) h = go (cases_eq s.0 c) (says world alone a c ss
     go (inr ne) rest = rw (ne_eqb s.0 c ne) rest
 
 -- a call's contact, if it has one, has started
-asks : (nodes : List ℕ) (c : ClientCall) → knows_contact nodes (Call c) ≡ true → IsAskedWithin nodes c
+pub asks : (nodes : List ℕ) (c : ClientCall) → knows_contact nodes (Call c) ≡ true → IsAskedWithin nodes c
 asks nodes Spawn known = tt
 asks nodes (Whereis x) known = tt
 asks nodes RegisteredNames known = tt

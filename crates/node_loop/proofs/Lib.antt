@@ -16,6 +16,11 @@ pub mod Doing
 pub mod Owing
 pub mod Updates
 pub mod Standing
+mod Starting
 pub mod Keeping
+mod DoingFrom
+mod StandingFrom
+pub mod KeepingFrom
 pub mod Beginning
+mod BeginningFrom
 pub mod Consistency

@@ -117,10 +117,13 @@ module _ {S : Type 0} (posts : S → ℕ → Item → S → Type 0) (takes : S �
       → DealsAmong posts takes a.core.world a.core.name inside dealt → inside s ≡ true → IsSoundFrom o start a (dealt s)
       → (inside t ≡ true) × MatchResult r (λ _. IsSoundFrom o start b (dealt t)) (λ _. EndsSoundFrom o start b (dealt t))
 
--- The next node of a name may start, as far as this one knows: the one before it is another of the world, and it was told that it has left
+-- The next node of a name may start, as far as this one knows, which runs: the one before it is another of the world, in which none is of that name
+-- besides, and it was told that it has left
 pub record MayStart (older next : ℕ) (a : Looping) : Type 0 where
   pub next_is : IsNext older next
   pub another : older ≡ a.core.name → ⊥
+  pub running : a.left ≡ false
+  pub new : with_older a.core.world next ≡ false
   pub known : set_of a.core.world older ≡ true
   pub told : with_older a.core.told older ≡ true
 

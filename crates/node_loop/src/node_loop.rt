@@ -1,7 +1,7 @@
 //! A node's loop.
-ghost use Rattle.std.specs.Prelude.{◌≡◌, ◌∷◌, [], true, false, length, map, IfOk, OnErr, MatchOption};
+ghost use Rattle.std.specs.Prelude.{ℕ, ◌≡◌, ◌∷◌, [], true, false, length, map, IfOk, OnErr, MatchOption};
 ghost use Rattle.tray.specs.Held.{none_for};
-ghost use Rattle.node_log.specs.NodeCoreHeld.{spans_of};
+ghost use Rattle.node_log.specs.NodeCoreHeld.{spans_of, IsNext};
 ghost use Rattle.node_loop.specs.Told.{told_by};
 ghost use Rattle.node_loop.specs.Coming.{begun};
 ghost use Rattle.node_loop.specs.Desks.{empty_desk};
@@ -170,9 +170,10 @@ impl<N: Names<Memory = Global>, L: Record> NodeLoop<N, L> {
         self.core.world()
     }
 
-    /// Whether a node is at present one of its world.
+    /// Whether a node is at present one of its world, which has no younger one of its name then.
     pub fn is_present(&self, node: &Node) -> bool
-        ensures { result ≡ set_of self.now.core.world node.now }
+        ensures present { result ≡ set_of self.now.core.world node.now }
+        ensures last { result ≡ true → (next : ℕ) → IsNext node.now next → with_older self.now.core.world next ≡ false }
     {
         self.core.world().contains(node)
     }

@@ -32,9 +32,10 @@ pub record GivesStart (next : ℕ) (a b : Stand) : Type 0 where
   pub starts : Starts older next a.end b.end
   pub loop : b.loop ≡ with_next older next a.loop
 
--- the one before it isn't another node that is at present, alone of its name
+-- the one before it isn't another node that is at present, alone of its name, or this one has left
 abbrev pub HasNoPlace : ℕ → Stand → Type 0
-HasNoPlace next a = (older : ℕ) → IsNext older next → is_alone older a.end ≡ true → set_of a.loop.core.world older ≡ true → ⊥
+HasNoPlace next a =
+    (older : ℕ) → IsNext older next → is_alone older a.end ≡ true → set_of a.loop.core.world older ≡ true → a.loop.left ≡ false → ⊥
 
 -- it is, and this node wasn't told that it has left
 pub record IsUntold (next : ℕ) (a : Stand) : Type 0 where

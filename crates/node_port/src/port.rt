@@ -1,7 +1,7 @@
 //! A node and its end of lines.
 ghost use Rattle.std.specs.Prelude.{◌≡◌, ◌==◌, ◌||◌, ◌≤◌, ◌+◌, ◌^◌, ◌∷◌, [], not, true, Some, IfOk, MatchOption, if◌then◌else◌};
 ghost use Rattle.std.specs.List.{All};
-ghost use Rattle.term.specs.NodeSets.{set_of};
+ghost use Rattle.term.specs.NodeSets.{set_of, with_older};
 ghost use Rattle.term.specs.Nodes.{IsFirst, name_of};
 ghost use Rattle.node_loop.specs.Coming.{begun};
 ghost use Rattle.wire_end.specs.Wirings.{begun as begun_end};
@@ -490,13 +490,17 @@ impl Port {
         }
     }
 
-    /// The node before this one, where that is another node of the world at present.
+    /// The node before this one, where that is another node of the world at present, and this one runs.
     fn place_for(&self, next: &Node) -> Option<Node>
         ensures { MatchOption result (HasNoPlace next.now (stand_of self.now)) (λ older. IsNext older next.now
-            × (is_alone older self.now.end ≡ true) × (set_of self.now.node.core.world older ≡ true)) }
+            × (is_alone older self.now.end ≡ true) × (set_of self.now.node.core.world older ≡ true)
+            × (with_older self.now.node.core.world next.now ≡ false) × (self.now.node.left ≡ false)) }
     {
         let older = next.before()?;
-        if self.end.is_linked_with(&older) && self.node.is_present(&older) {
+        if !self.node.has_left()
+            && self.end.is_linked_with(&older)
+            && self.node.is_present(&older)
+        {
             Some(older)
         } else {
             None

@@ -1,6 +1,6 @@
 -- The order of an end's lines: of each other node, what its lines spell is what was taken of it and what waits; and what is printed is the
 -- lines of the letters that were sent to others.
-use Rattle.std.specs.Prelude.{ℕ, Bool, true, false, ◌≡◌, ◌⊎◌, ◌==◌, ◌&&◌, ◌+◌, not, nat_lt, Option, Some, None, Ok, List, [], ◌∷◌, ◌++◌, map, length, if◌then◌else◌}
+use Rattle.std.specs.Prelude.{ℕ, Bool, true, false, ◌≡◌, ◌⊎◌, ◌==◌, ◌&&◌, ◌+◌, not, nat_lt, is_some, Option, Some, None, Ok, List, [], ◌∷◌, ◌++◌, map, length, if◌then◌else◌}
 use Rattle.std.specs.List.{sum_by, list_all, list_any, AllByRecursion}
 use Rattle.protocol_model.specs.Letter.{Letter as AnyLetter}
 use Rattle.term.specs.Nodes.{name_of}
@@ -19,7 +19,7 @@ use Rattle.wire_end.specs.Dealings.{of_node}
 use Rattle.wire_end.specs.Hearing.{Hears, Loses, gone}
 use Rattle.wire_end.specs.Sending.{letter_text}
 use Rattle.wire_end.specs.Starting.{Starts}
-use Rattle.wire_end.specs.Wirings.{link_with, begun, Posts, Takes}
+use Rattle.wire_end.specs.Wirings.{place, link_with, begun, Posts, Takes}
 
 -- lines are numbered from this one on, without a gap
 abbrev pub AreNumbered : ℕ → List LinkLine → Type 0
@@ -73,9 +73,12 @@ pub record SpellsBefore (lines : List LinkLine) (came : List Stamped) : Type 0 w
   pub word : (last ≡ []) ⊎ (last ≡ seen gone ∷ [])
   pub came_is : map seen came ≡ letters ++ last
 
--- a link leads to a younger node of its name
+-- a link leads to a younger node of its name, and none to it
+abbrev pub has_younger : ℕ → List Wire → Bool
+has_younger f wires = list_any (λ w. (name_of w.node == name_of f) && nat_lt f w.node) wires
+
 abbrev pub is_replaced : ℕ → List Wire → Bool
-is_replaced f wires = list_any (λ w. (name_of w.node == name_of f) && nat_lt f w.node) wires
+is_replaced f wires = not (is_some (place f wires)) && has_younger f wires
 
 -- how many lines the letters to this node have
 abbrev pub lines_to : ℕ → List (ℕ × Stamped) → ℕ
