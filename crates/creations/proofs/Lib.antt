@@ -129,3 +129,4 @@ pub mod ByName
 pub mod NamedCalls
 pub mod NobodyBack
 pub mod NumbersRead
+pub mod SomeStarted

@@ -7,4 +7,5 @@ pub mod Among
 mod Printing
 mod Spelling
 mod Running
+mod Listing
 mod Returning

@@ -119,7 +119,7 @@ spells-as w v lines more came rest e f g s =
     subst (λ x. Spells x more rest) (sym e) (subst (λ x. Spells w x rest) (sym f) (subst (λ x. Spells w lines x) (sym g) s))
 
 -- what a link spells is spelled once it isn't there any more
-spells-before : (w : Wire) (lines : List LinkLine) (came : List Stamped) → Spells w lines came → SpellsBefore lines came
+pub spells-before : (w : Wire) (lines : List LinkLine) (came : List Stamped) → Spells w lines came → SpellsBefore lines came
 spells-before w lines came s = record {
   numbered = s.numbered;
   items = s.items;

@@ -1,5 +1,5 @@
 -- Programs whose letters go as lines, and whose nodes come back: each creation of a name is a node of its own, which one program runs, or none.
-use Rattle.std.specs.Prelude.{ℕ, zero, suc, Bool, true, false, ◌≡◌, ◌<◌, ◌≤◌, ◌+◌, ◌-◌, ◌||◌, List, [], ◌∷◌, ◌++◌, map, flat_map, if◌then◌else◌}
+use Rattle.std.specs.Prelude.{ℕ, zero, suc, Bool, true, false, ◌≡◌, ◌<◌, ◌≤◌, ◌+◌, ◌-◌, List, [], ◌∷◌, ◌++◌, map, flat_map, if◌then◌else◌}
 use Rattle.std.specs.List.{All, AllByRecursion, sum_by}
 use Rattle.registry_model.specs.Process.{Nodes}
 use Rattle.registry_model.specs.Table.{Table}
@@ -8,14 +8,15 @@ use Rattle.protocol_model.specs.Letter.{Letter as AnyLetter}
 use Rattle.protocol_model.specs.Node.{Node, opening_node}
 use Rattle.protocol_model.specs.World.{Opening, WorldEvent, in_world, in_cluster, other}
 use Rattle.creations.specs.NodeNames.{NamedOpening, opening_of, first_nodes}
+use Rattle.creations.specs.Restarts.{fresh_node}
 use Rattle.creations.specs.SomeStarted.{of_started}
 use Rattle.closing_runs.specs.Laws.{HasARun}
 use Rattle.closing_runs.specs.Merging.{events_in, world_behind}
 use Rattle.lock_answers.specs.Worlds.{Agrees}
 use Rattle.lock_answers.specs.ClientLocks.{ClientLocks}
 use Rattle.lock_answers.specs.Leftovers.{NothingIsLeft}
-use Rattle.term.specs.Nodes.{text_in, creation_of}
-use Rattle.term.specs.NodeSets.{with_older}
+use Rattle.term.specs.Nodes.{text_in, name_of, creation_of}
+use Rattle.term.specs.NodeSets.{IsNodeSet, set_of, with_older}
 use Rattle.node_log.specs.Seen.{seen_entry}
 use Rattle.node_loop.specs.Alone.{Entry, Stamped as StampedLetter, sent}
 use Rattle.node_loop.specs.Held.{Written}
@@ -37,12 +38,13 @@ pub record Program : Type 0 where
   pub printed : List ℕ
   pub end : Wiring
 
--- node n as it starts, where these have left: as it opened, but that it was told of them
-abbrev pub told_of : List ℕ → Node → Node
-told_of left v = record v { replica = record v.replica { told = λ c. v.replica.told c || with_older left c } }
+-- node n as it starts: as it opens, where nobody has left; and else it is lone, has nothing, and was told of those that have
+abbrev pub started_node : Opening → ℕ → List ℕ → Node
+started_node o n [] = opening_node (in_cluster o) n
+started_node o n (d ∷ ds) = fresh_node (with_older (d ∷ ds)) n
 
 abbrev pub start_of : Opening → ℕ → Program → Start
-start_of o n p = record { node = told_of p.left (opening_node (in_cluster o) n); stamp = p.stamp }
+start_of o n p = record { node = started_node o n p.left; stamp = p.stamp }
 
 -- how many have left, where these are the last ones of their names
 abbrev pub count_left : List ℕ → ℕ
@@ -68,6 +70,11 @@ pub record IsGone (ls : List StampedLetter) (stamp : ℕ) : Type 0 where
   pub only : ls ≡ record { stamp = by; letter = AnyLetter.Down } ∷ []
   pub before : by ≤ stamp
 
+-- these are the last ones of names: they are listed as a set is, and no two have one name
+pub record AreLastOnes (left : List ℕ) : Type 0 where
+  pub set : IsNodeSet left
+  pub one : (a b : ℕ) → set_of left a ≡ true → set_of left b ≡ true → name_of a ≡ name_of b → a ≡ b
+
 -- The programs of the nodes that ran, of those that a world of names can have. Each tells of its node from its start on, its end is in order, and
 -- its node's letters to itself stayed in it. Each letter that was taken of another has the stamp of a step: nobody was told by a line that a node
 -- is gone without a word. What each read of another that ran begins what that printed for it, and of one that didn't run it read nothing, and it
@@ -88,9 +95,11 @@ pub record ArePrograms (o : NamedOpening) (ran : Nodes) (programs : ℕ → Prog
       → Begin (of_node f (programs t).end.read) (of_node t (lines_out (programs f).end))
   pub strange : (f t : ℕ) → ran f ≡ false → ran t ≡ true → of_node f (programs t).end.read ≡ []
   pub contacts : (n : ℕ) → ran n ≡ true → All (λ (e : Entry). ran (other e.event) ≡ true) (map seen_entry (programs n).log.entries)
+  pub lefts : (n : ℕ) → ran n ≡ true → AreLastOnes (programs n).left
   pub room : (n : ℕ) → ran n ≡ true → count_left (programs n).left ≤ (programs n).stamp
-  pub gone : (d n : ℕ) → ran n ≡ true → with_older (programs n).left d ≡ true
-      → (d_ran : ran d ≡ true) × IsGone (sent n (tell d d_ran).course) ((programs n).stamp - count_left (programs n).left)
+  pub gone_ran : (d n : ℕ) → ran n ≡ true → with_older (programs n).left d ≡ true → ran d ≡ true
+  pub gone : (d n : ℕ) (d_ran : ran d ≡ true) → ran n ≡ true → with_older (programs n).left d ≡ true
+      → IsGone (sent n (tell d d_ran).course) ((programs n).stamp - count_left (programs n).left)
   -- a node that starts isn't told of itself, and of no node by a line of which it was told at its start
   pub apart : (n : ℕ) → ran n ≡ true → with_older (programs n).left n ≡ false
   pub once : (d n : ℕ) → ran n ≡ true → with_older (programs n).left d ≡ true → of_node d (programs n).end.taken ≡ []

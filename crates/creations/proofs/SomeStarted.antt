@@ -1,0 +1,36 @@
+-- What holds of all worlds of nodes holds of those of which some nodes never start.
+use Rattle.std.proofs.Common.{ℕ, Bool, true, false, ◌≡◌, List, ◌++◌, filter}
+use Rattle.registry_model.specs.Process.{Nodes}
+use Rattle.protocol_model.specs.World.{Opening, World, WorldEvent, opening_world, run}
+use Rattle.lock_answers.proofs.Theorem.{agreement as agreement_of_nodes}
+use Rattle.lock_answers.proofs.HeadlineClients.{exclusion as exclusion_of_nodes}
+use Rattle.lock_answers.proofs.ClientLocks.{client_locks as locks_of_nodes}
+use Rattle.lock_answers.specs.Worlds.{Agrees, Excludes}
+use Rattle.lock_answers.specs.ClientLocks.{ClientLocks}
+use Rattle.lock_answers.specs.Leftovers.{NothingIsLeft}
+use Rattle.creations.specs.SomeStarted.{is_of_started, OfStarted}
+
+-- what doesn't ask which nodes run is said of the same events and the same world
+pub agreement : OfStarted Agrees
+agreement o started es lone = agreement_of_nodes o (filter (is_of_started o started) es)
+
+pub exclusion : OfStarted Excludes
+exclusion o started es lone = exclusion_of_nodes o (filter (is_of_started o started) es)
+
+-- what is said of quiet worlds holds of the world in which all that never start were told of those that have left: for the others that is the
+-- same
+pub client_locks : OfStarted ClientLocks
+client_locks o started es lone = record {
+  exclusion = exclusion o started es lone;
+  reads = record {
+    refused = (locks_of_nodes o (filter (is_of_started o started) es)).reads.refused;
+    waits = ?;
+    gone = (locks_of_nodes o (filter (is_of_started o started) es)).reads.gone;
+  };
+  answers = (locks_of_nodes o (filter (is_of_started o started) es)).answers;
+  quiet = ?;
+  answered = ?;
+}
+
+pub nothing_is_left : OfStarted NothingIsLeft
+nothing_is_left o started es lone = ?
