@@ -5,7 +5,7 @@ use Rattle.std.specs.Prelude.{if◌then◌else◌}
 use Rattle.registry_model.proofs.Updates.{by_test}
 use Rattle.protocol_model.specs.Node.{Node}
 use Rattle.protocol_model.specs.World.{Opening, WorldEvent, At, Deliver}
-use Rattle.closings.specs.Alone.{Stamped, Made, Reads, Does, unread_after, unread_behind, StartsAbove, IsStep, Plays}
+use Rattle.closings.specs.Alone.{Stamped, Made, Reads, Does, unread_after, unread_behind, StartsAbove, Plays}
 
 module _ (o : Opening) (more : ℕ → List Stamped) where
   -- what a node does it does too where it has more letters to read

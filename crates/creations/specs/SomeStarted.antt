@@ -44,11 +44,13 @@ module _ (o : Opening) (started : Nodes) where
     played = λ w es. filter is_of_started es;
   }
 
--- who never starts isn't joined from the beginning
-abbrev pub AreLone : Opening → Nodes → Type 0
-AreLone o started = (c : ℕ) → in_cluster o c ≡ true → started c ≡ true
+-- Some nodes of a world may never start: those that are lone from the beginning. Node 0 is none of these: a round that asks nobody is led by it,
+-- and though there is no such round, what nodes know of each other is shown without that
+pub record MayStart (o : Opening) (started : Nodes) : Type 0 where
+  pub joined : (c : ℕ) → in_cluster o c ≡ true → started c ≡ true
+  pub least : in_world o 0 ≡ true → started 0 ≡ true
 
 -- A law holds of every world of nodes of which some never start
 abbrev pub OfStarted : Law → Type 0
-OfStarted L = (o : Opening) (started : Nodes) (es : List WorldEvent) → AreLone o started →
+OfStarted L = (o : Opening) (started : Nodes) (es : List WorldEvent) → MayStart o started →
     L (of_started o started) es (run o (opening_world o) (filter (is_of_started o started) es))

@@ -1,13 +1,11 @@
 -- A loop begins sound where nodes come back, and what it leaves behind tells of its node.
-use Rattle.std.proofs.Common.{◌≡◌, ◌≤◌, ℕ, Bool, true, false, List, [], ◌∷◌, ◌++◌, map, refl, sym, ap, subst, ◌∙◌, inl, inr, arith}
+use Rattle.std.proofs.Common.{◌≡◌, ℕ, [], map, refl, sym, ap, subst, ◌∙◌, inl, inr, arith}
 use Rattle.std.specs.List.Sorted.{IsStrictlyIncreasing}
 use Rattle.registry_model.specs.Table.{Table}
 use Rattle.protocol_model.specs.Node.{Node}
 use Rattle.protocol_model.specs.World.{Opening}
-use Rattle.closings.specs.Alone.{node_behind}
 use Rattle.node_log.specs.NodeCoreHeld.{Held}
 use Rattle.node_log.specs.NodeCoreSeen.{node_of}
-use Rattle.node_log.specs.Entries.{Entry}
 use Rattle.node_log.specs.Seen.{seen_entry}
 use Rattle.tray.specs.Held.{none_for}
 use Rattle.node_loop.specs.Held.{Looping, Written}

@@ -1,8 +1,8 @@
 -- The step of a core is what the protocol's node does in a world of which it knows some nodes alone: what it sends to these is the same, and
 -- that it has left it says to all others, too.
-use Rattle.std.proofs.Common.{◌≡◌, ◌==◌, ◌<◌, ℕ, Bool, true, false, None, List, [], ◌∷◌, map, refl, sym, ap, subst, ◌∙◌, inl, inr, All, cond, nat_lt}
+use Rattle.std.proofs.Common.{◌≡◌, ◌==◌, ◌<◌, ℕ, Bool, true, false, List, [], ◌∷◌, map, refl, sym, ap, subst, ◌∙◌, inl, inr, nat_lt}
 use Rattle.std.specs.Prelude.{◌&&◌, not, if◌then◌else◌}
-use Rattle.std.proofs.lemmas.Bool.{cases_eq, ne_eqb, eq-eqb, true≢false}
+use Rattle.std.proofs.lemmas.Bool.{cases_eq, ne_eqb, true≢false}
 use Rattle.std.proofs.lemmas.List.Elements.{All-head, All-tail}
 use Rattle.moves.proofs.Sends.{sent_to-all}
 use Rattle.protocol_model.specs.Letter.{Letter as AnyLetter}
@@ -15,7 +15,6 @@ use Rattle.protocol_model.specs.World.{WorldEvent as AnyWorldEvent}
 use Rattle.closings.specs.Alone.{Stamped as StampedLetter, Entry as SeenEntry, Made, IsTurnOf, Reads, Does}
 use Rattle.term.specs.NodeSets.{set_of, with_older}
 use Rattle.term.proofs.Older.{held}
-use Rattle.node_log.specs.declared.Call.{Call as ClientCall}
 use Rattle.node_log.specs.declared.Call.TheVariants.{Spawn, Whereis, RegisteredNames, Notices, Register, ReRegister, Unregister, SetLock, DelLock, Join as JoinBy}
 use Rattle.node_events.specs.declared.events.Event.{Event as NodeEvent}
 use Rattle.node_events.specs.declared.events.Event.TheVariants as node

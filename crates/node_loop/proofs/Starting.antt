@@ -1,5 +1,5 @@
 -- Where the next node of a name takes the place of the one before it, a sound loop stays sound.
-use Rattle.std.proofs.Common.{ℕ, Bool, true, false, ◌≡◌, ◌==◌, ◌<◌, ◌≤◌, ◌+◌, ◌^◌, List, [], ◌∷◌, ◌++◌, map, length, get_or, inl, inr, refl, sym, ap, subst, ◌∙◌, arith, append-nil}
+use Rattle.std.proofs.Common.{ℕ, Bool, true, false, ◌≡◌, ◌==◌, ◌<◌, ◌≤◌, ◌+◌, ◌^◌, List, [], ◌∷◌, ◌++◌, length, get_or, inl, inr, refl, sym, ap, subst, ◌∙◌, arith}
 use Rattle.std.specs.Prelude.{if◌then◌else◌, not, max, ◌⊎◌, ◌&&◌, ◌||◌}
 use Rattle.std.specs.List.Sorted.{IsStrictlyIncreasing}
 use Rattle.std.proofs.lemmas.Bool.{cases_eq, both_ways, eq-eqb, eqb-true, ne_eqb, and_from, and_parts, or_cases, or_left, or_right, true≢false}
@@ -13,11 +13,11 @@ use Rattle.term.specs.NodeSets.{set_of, with_older, succeeded}
 use Rattle.term.proofs.Older.{held, reached, reaching, succeeded_is, succeeded_keeps}
 use Rattle.term.proofs.Succeeded.{next_of, keeps_order}
 use Rattle.node_log.specs.NodeCoreHeld.{Held, bound_of, IsNext}
-use Rattle.tray.specs.Held.{Waiting, none_for, renewed_where, renewed}
+use Rattle.tray.specs.Held.{Waiting, none_for, renewed}
 use Rattle.node_loop.specs.declared.item.Item.{Item}
 use Rattle.node_loop.specs.Held.{Looping, with_next}
 use Rattle.node_loop.specs.Dealings.{Dealt, letters_in, put, receivers, waiting_for}
-use Rattle.node_loop.specs.Returning.{IsByName, IsNodeAmong, Start, StandsFrom, IsSoundFrom, MayStart, StartsKeepSound}
+use Rattle.node_loop.specs.Returning.{IsByName, IsNodeAmong, Start, IsSoundFrom, MayStart, StartsKeepSound}
 
 -- rising nodes rise still, where none of them is the next one
 rising_succeeded : (xs : List ℕ) (a b : ℕ) → b ≡ a + 1 → set_of xs b ≡ false → IsStrictlyIncreasing xs → IsStrictlyIncreasing (succeeded a b xs)

@@ -1,7 +1,7 @@
 -- A node's loop in a world whose nodes come back. The nodes of that world are those of all creations of its names, each a node of its own; a
 -- loop knows those that have started, as far as its node was told. Of what it takes each letter is such as these may say, so each of its
 -- steps is the protocol's, whatever others do.
-use Rattle.std.specs.Prelude.{ℕ, Bool, true, false, ◌≡◌, ◌==◌, ◌≤◌, ◌⊎◌, ◌+◌, List, [], ◌++◌, map, MatchResult, if◌then◌else◌}
+use Rattle.std.specs.Prelude.{ℕ, Bool, true, false, ◌≡◌, ◌≤◌, ◌⊎◌, ◌+◌, List, [], ◌++◌, map, MatchResult}
 use Rattle.std.specs.List.Sorted.{IsStrictlyIncreasing}
 use Rattle.registry_model.specs.Table.{Table}
 use Rattle.protocol_model.specs.Node.{Node}

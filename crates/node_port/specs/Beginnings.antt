@@ -1,6 +1,6 @@
 -- How a node begins: who had left, and the stamp above which its steps are.
 use Rattle.std.specs.Prelude.{ℕ, Bool, true, false, ◌≡◌, ◌==◌, ◌&&◌, ◌||◌, ◌<◌, ◌+◌, ◌-◌, ◌^◌, not, codes, find, map, Option, Some, None, List, [], ◌∷◌, ◌++◌, if◌then◌else◌}
-use Rattle.std.specs.List.{list_all, list_any}
+use Rattle.std.specs.List.{list_all}
 use Rattle.command_lines.specs.Commands.{unread}
 use Rattle.term.specs.NodeLists.{SpellsNodeSet}
 use Rattle.term.specs.NodeSets.{set_of, names_in}

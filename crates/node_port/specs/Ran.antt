@@ -1,5 +1,5 @@
 -- What the program of a node did by its lines.
-use Rattle.std.specs.Prelude.{ℕ, Bool, true, false, ◌≡◌, ◌≢◌, codes, bytes_eq, flat_map, List, [], ◌∷◌, ◌++◌, Option, Ok}
+use Rattle.std.specs.Prelude.{ℕ, Bool, true, false, ◌≡◌, ◌≢◌, codes, flat_map, List, [], ◌∷◌, ◌++◌, Option, Ok}
 use Rattle.std.specs.List.{All}
 use Rattle.std.specs.Io.KnownBytes.{Appends}
 use Rattle.protocol_model.specs.Event.{Answer as AnyAnswer}

@@ -1,5 +1,5 @@
 -- What the functions do that play a line at a node.
-use Rattle.std.specs.Prelude.{ℕ, true, false, ◌≡◌, ◌≢◌, ◌⊎◌, map, flat_map, string_bytes, codes, bytes_eq, Bool, List, [], ◌∷◌, ◌++◌, Option, Some, None, Result, Ok, Err, if◌then◌else◌}
+use Rattle.std.specs.Prelude.{ℕ, true, false, ◌≡◌, ◌≢◌, ◌⊎◌, map, flat_map, string_bytes, codes, Bool, List, [], ◌∷◌, ◌++◌, Option, Some, None, Result, Ok, Err, if◌then◌else◌}
 use Rattle.std.specs.List.{list_all}
 use Rattle.term.specs.Nodes.{creation_of}
 use Rattle.std.specs.Io.KnownBytes.{Appends, Consumes, Keeps}
@@ -17,7 +17,7 @@ use Rattle.node_port.specs.Commands.{Taken, is_done}
 use Rattle.node_port.specs.Deeds.{Stand, Deed, DoesAll, BreaksOff, IsAllTold, changes_by, replies_by, all_go_on, is_still}
 use Rattle.node_port.specs.Edits.{Changed, changed_lines}
 use Rattle.node_port.specs.Playing.{Gives, Printed, PlaysLine, PlaysAll, EndsFor, said, spent, printed_text}
-use Rattle.node_port.specs.Beginnings.{Beginning, IsBeginning}
+use Rattle.node_port.specs.Beginnings.{IsBeginning}
 use Rattle.node_port.specs.Ran.{Ends, Opens, Founds, Behind, Plainly, IsPlain, first_text, opened_so}
 use Rattle.node_port.specs.Shown.{Shown, Tells, Gaps, Strays, Misses, Spends, line_fault_of, shown_lines}
 use Rattle.node_port.specs.Shown as shown

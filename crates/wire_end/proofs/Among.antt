@@ -1,12 +1,10 @@
 -- An end of lines that leads among the nodes of a world deals in what these may say.
 use Rattle.std.proofs.Common.{ℕ, Bool, true, false, ◌≡◌, ◌==◌, inl, inr, List, [], ◌∷◌, ◌++◌, map, length, refl, sym, ap, subst, ◌∙◌}
-use Rattle.std.specs.Prelude.{if◌then◌else◌, ◌&&◌, not, is_some}
+use Rattle.std.specs.Prelude.{if◌then◌else◌, ◌&&◌, is_some}
 use Rattle.std.specs.List.{list_all}
-use Rattle.std.proofs.lemmas.Bool.{and_from, and_parts, eqb-true, or_left, eq-eqb}
+use Rattle.std.proofs.lemmas.Bool.{and_from, and_parts, eqb-true, eq-eqb}
 use Rattle.std.proofs.lemmas.List.Folds.{list_all-append}
-use Rattle.letter_lines.specs.declared.Letter.{Letter as ALetter}
 use Rattle.letter_lines.specs.Parts.{parts_of}
-use Rattle.protocol_model.specs.World.{Opening}
 use Rattle.term.specs.NodeSets.{set_of, with_older}
 use Rattle.term.proofs.Older.{held}
 use Rattle.node_loop.specs.declared.item.Item.{Item}
@@ -18,7 +16,7 @@ use Rattle.wire_end.specs.declared.wire.Wire.{Wire}
 use Rattle.wire_end.specs.declared.wire_end.Wiring.{Wiring}
 use Rattle.wire_end.specs.Dealings.{dealt_of, leads_among}
 use Rattle.wire_end.specs.Saying.{present, is_said}
-use Rattle.wire_end.specs.Wirings.{place, wire_at, with_lines_at, kept, printed, posted, Posts, Takes}
+use Rattle.wire_end.specs.Wirings.{place, with_lines_at, kept, printed, posted, Posts, Takes}
 use Rattle.wire_end.proofs.Dealing.{led, takes_more, sent_dealt}
 use Rattle.wire_end.proofs.Saying.{said_among, said_by}
 

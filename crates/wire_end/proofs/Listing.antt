@@ -1,11 +1,10 @@
 -- Who has left, where the last ones of their names are given: those that these reach, each once, and as many as their creations say.
-use Rattle.std.proofs.Common.{ℕ, zero, suc, Bool, true, false, ◌≡◌, ◌==◌, ◌<◌, ◌≤◌, ◌+◌, ◌*◌, ◌/◌, ◌%◌, ◌^◌, inl, inr, List, [], ◌∷◌, ◌++◌, length, refl, sym, ap, ◌∙◌, arith, length-append}
-use Rattle.std.specs.Prelude.{Contains, ◌↔◌, ◌&&◌, ◌||◌, nat_le, flat_map}
-use Rattle.std.specs.List.{sum_by}
+use Rattle.std.proofs.Common.{ℕ, zero, suc, true, ◌≡◌, ◌==◌, ◌<◌, ◌≤◌, ◌+◌, ◌*◌, ◌/◌, ◌%◌, ◌^◌, inl, inr, List, [], ◌∷◌, length, refl, sym, ap, ◌∙◌, arith, length-append}
+use Rattle.std.specs.Prelude.{Contains, ◌↔◌, ◌&&◌, nat_le}
 use Rattle.std.specs.List.Sorted.{IsStrictlyIncreasing}
 use Rattle.std.proofs.lemmas.Bool.{and_parts, cases_eq, eq-eqb, eqb-true, leb-true, or_cases, or_left, or_right}
 use Rattle.std.proofs.lemmas.List.Elements.{Contains-append_left, Contains-append_right, Contains-append_cases}
-use Rattle.registry_model.proofs.Lists.{Contains-cases, Contains-front, Contains-behind, Contains-nil}
+use Rattle.registry_model.proofs.Lists.{Contains-nil}
 use Rattle.protocol_model.specs.Event.{last_u32}
 use Rattle.creations.specs.NodeNames.{NamedOpening, span, first_nodes, name_of as name_in, creation_of as creation_in}
 use Rattle.creations.proofs.Lists.{Rise, rise-append, distinct_of}

@@ -25,7 +25,7 @@ use Rattle.wire_end.specs.Hearing.{HearsAt, LosesAt, laid_if, lost_where, closed
 use Rattle.wire_end.specs.Links.{HearsPart, read_on}
 use Rattle.wire_end.specs.Order.{AreNumbered, seen, ended_by, onward, spelled_on, Spells, SpellsBefore, has_younger, is_replaced, lines_to, text_behind, texts_behind, came_of, InOrder, StayInOrder}
 use Rattle.wire_end.specs.Sending.{letter_text}
-use Rattle.wire_end.specs.Wirings.{place, new_wire, wire_at, wire_if, link_with, with_lines_at, kept, printed, reaches, IsReadAgain, Posts, Takes, begun}
+use Rattle.wire_end.specs.Wirings.{place, new_wire, wire_at, wire_if, link_with, with_lines_at, kept, printed, IsReadAgain, Posts, Takes, begun}
 use Rattle.wire_end.specs.Saying.{present, is_said}
 use Rattle.wire_end.specs.Starting.{Starts, is_alone, with_started, opened_anew}
 use Rattle.node_loop.specs.NodeCoreHeld.{IsNext}

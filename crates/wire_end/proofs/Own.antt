@@ -16,7 +16,7 @@ use Rattle.wire_end.specs.Hearing.{HearsAt, LosesAt, laid_if, read_at, lost_wher
 use Rattle.wire_end.specs.Links.{HearsPart}
 use Rattle.wire_end.specs.Order.{KeepsOwn, KeepTheirOwn}
 use Rattle.term.specs.Nodes.{name_of}
-use Rattle.wire_end.specs.Starting.{is_alone, Starts, with_started}
+use Rattle.wire_end.specs.Starting.{Starts}
 use Rattle.wire_end.specs.Wirings.{place, wire_at, new_wire, kept, printed, Posts, Takes}
 use Rattle.wire_end.proofs.Dealing.{led_at, led}
 use Rattle.wire_end.proofs.Ordering.{more-same, more-other, first-same, first-other}

@@ -1,5 +1,5 @@
 -- The places of links.
-use Rattle.std.proofs.Common.{ℕ, zero, suc, Bool, true, false, ◌≡◌, ◌==◌, ◌<◌, ◌+◌, ◌⊎◌, inl, inr, Option, Some, None, List, [], ◌∷◌, map, length, get_or, set, refl, sym, ap, subst, ◌∙◌, cond, nat_lt, arith}
+use Rattle.std.proofs.Common.{ℕ, zero, suc, Bool, true, false, ◌≡◌, ◌==◌, ◌<◌, ◌+◌, ◌⊎◌, inl, inr, Option, Some, None, List, [], ◌∷◌, map, length, get_or, set, refl, sym, ap, ◌∙◌, cond, nat_lt}
 use Rattle.std.specs.Prelude.{if◌then◌else◌, not, is_some, ◌&&◌, ◌||◌}
 use Rattle.std.specs.List.{list_all, list_any}
 use Rattle.std.proofs.Math.ListN.{length-set}
@@ -13,7 +13,7 @@ use Rattle.wire_end.specs.declared.wire.Wire.{Wire}
 use Rattle.term.specs.Nodes.{name_of}
 use Rattle.node_loop.specs.NodeCoreHeld.{IsNext}
 use Rattle.wire_end.specs.Order.{has_younger, is_replaced}
-use Rattle.wire_end.specs.Starting.{opened_anew, is_alone, Starts}
+use Rattle.wire_end.specs.Starting.{opened_anew}
 use Rattle.wire_end.specs.declared.wire_end.Wiring.{Wiring}
 use Rattle.wire_end.specs.Wirings.{place, wire_at, wire_if, link_with, new_wire}
 

@@ -1,17 +1,14 @@
 -- Programs whose nodes come back have one run: the notices of each start, and then the steps of its program, are steps of a node that was there
 -- from the beginning, and read nothing before.
-use Rattle.std.proofs.Common.{ℕ, suc, Bool, true, false, ◌≡◌, ◌==◌, ◌<◌, ◌≤◌, ◌+◌, ◌-◌, inl, inr, Some, List, [], ◌∷◌, ◌++◌, drop, map, refl, sym, ap, subst, ◌∙◌, append-nil, append_assoc, arith, All}
-use Rattle.std.specs.Prelude.{◌⊎◌, Contains, if◌then◌else◌, ◌&&◌, filter, length}
-use Rattle.std.specs.List.{AllByRecursion}
+use Rattle.std.proofs.Common.{ℕ, suc, Bool, true, false, ◌≡◌, ◌==◌, ◌+◌, ◌-◌, inl, inr, Some, List, [], ◌∷◌, ◌++◌, drop, map, refl, sym, ap, subst, ◌∙◌, append-nil, arith, All}
+use Rattle.std.specs.Prelude.{Contains, if◌then◌else◌, filter, length}
 use Rattle.std.proofs.Math.Path.{fun_ext}
 use Rattle.std.proofs.lemmas.Bool.{cases_eq, eq-eqb, eqb-true, ne_eqb, or_cases, true≢false}
 use Rattle.std.proofs.lemmas.List.{map-append}
 use Rattle.std.proofs.lemmas.List.Elements.{All-nil, All-cons, All-head, All-tail, All-append, All-weaker}
 use Rattle.std.proofs.lemmas.Grind.{flat_map-append}
 use Rattle.registry_model.specs.Process.{Nodes, nobody, with_node}
-use Rattle.registry_model.specs.Table.{Table}
 use Rattle.registry_model.proofs.Lists.{Contains-front, Contains-behind}
-use Rattle.protocol_model.specs.Letter.{Letter as AnyLetter}
 use Rattle.protocol_model.specs.Node.{Node, opening_node}
 use Rattle.protocol_model.specs.Turn.{Turn}
 use Rattle.protocol_model.specs.World.{Opening, World, WorldEvent, in_world, in_cluster, other, happens, opening_world, run}
@@ -21,7 +18,7 @@ use Rattle.closing_runs.specs.Laws.{HasARun}
 use Rattle.closing_runs.specs.Merging.{Step, TakesAll, events_in, happening, steps_of}
 use Rattle.creations.specs.NodeNames.{NamedOpening, opening_of}
 use Rattle.creations.specs.Restarts.{fresh_node}
-use Rattle.creations.specs.SomeStarted.{is_of_started, of_started}
+use Rattle.creations.specs.SomeStarted.{is_of_started, of_started, MayStart}
 use Rattle.creations.proofs.SomeStarted.{agreement, client_locks, nothing_is_left}
 use Rattle.creations.proofs.Standing.{opening_fresh}
 use Rattle.creations.proofs.Telling.{AreDistinct, receive_down, told_all, told_of, told_only}
@@ -37,8 +34,8 @@ use Rattle.node_loop.specs.Dealings.{took, put}
 use Rattle.node_loop.specs.declared.item.Stamped.{Stamped}
 use Rattle.wire_end.specs.declared.wire_end.Wiring.{Wiring}
 use Rattle.wire_end.specs.Dealings.{of_node, dealt_of}
-use Rattle.wire_end.specs.Order.{seen, spelled_by, came_of}
-use Rattle.wire_end.specs.Returning.{Program, ArePrograms, PlayByName, NamedEndsHaveARun, IsGone, started_node, start_of, count_left, all_left, notices_from, notices_of, log_of, table_of}
+use Rattle.wire_end.specs.Order.{seen, spelled_by}
+use Rattle.wire_end.specs.Returning.{Program, ArePrograms, NamedEndsHaveARun, IsGone, started_node, count_left, all_left, notices_from, notices_of, log_of, table_of}
 use Rattle.wire_end.proofs.Listing.{left_listed, left_distinct, left_counted}
 use Rattle.wire_end.proofs.Ordering.{each}
 use Rattle.wire_end.proofs.Running.{as_seen, stamps_seen, before_last, begins_then, own_begins, all_spelled}
@@ -441,11 +438,11 @@ pub named_ends_have_a_run : NamedEndsHaveARun
 named_ends_have_a_run o ran programs A = record {
   run = merged;
   agrees = subst (λ (es : List WorldEvent). Agrees (of_started (opening_of o) ran) (events_in merged.steps) (world_of es)) all
-      (agreement (opening_of o) ran (events_in merged.steps) lone);
+      (agreement (opening_of o) ran (events_in merged.steps) may_start);
   locks = subst (λ (es : List WorldEvent). ClientLocks (of_started (opening_of o) ran) (events_in merged.steps) (world_of es)) all
-      (client_locks (opening_of o) ran (events_in merged.steps) lone);
+      (client_locks (opening_of o) ran (events_in merged.steps) may_start);
   nothing_is_left = subst (λ (es : List WorldEvent). NothingIsLeft (of_started (opening_of o) ran) (events_in merged.steps) (world_of es)) all
-      (nothing_is_left (opening_of o) ran (events_in merged.steps) lone);
+      (nothing_is_left (opening_of o) ran (events_in merged.steps) may_start);
 }
   where
     merged : HasARun (opening_of o) (λ n. log_of o n (ran n) (programs n)) (λ n. table_of (ran n) (programs n))
@@ -459,8 +456,8 @@ named_ends_have_a_run o ran programs A = record {
     all : filter (is_of_started (opening_of o) ran) (events_in merged.steps) ≡ events_in merged.steps
     all = all_started o ran programs A merged.steps merged.plays.takes merged.merged.whole
 
-    lone : (n : ℕ) → in_cluster (opening_of o) n ≡ true → ran n ≡ true
-    lone n i = (A.founder n i).0
+    may_start : MayStart (opening_of o) ran
+    may_start = record { joined = λ n i. (A.founder n i).0; least = λ i. cc (A.nameless, i) }
 
     world_of : List WorldEvent → World
     world_of es = run (opening_of o) (opening_world (opening_of o)) es

@@ -1,5 +1,5 @@
 -- Programs whose letters go as lines, and whose nodes come back: each creation of a name is a node of its own, which one program runs, or none.
-use Rattle.std.specs.Prelude.{ℕ, zero, suc, Bool, true, false, ◌≡◌, ◌<◌, ◌≤◌, ◌+◌, ◌-◌, List, [], ◌∷◌, ◌++◌, map, flat_map, if◌then◌else◌}
+use Rattle.std.specs.Prelude.{ℕ, Bool, true, false, ◌≡◌, ◌<◌, ◌≤◌, ◌+◌, ◌-◌, List, [], ◌∷◌, ◌++◌, map, flat_map, if◌then◌else◌}
 use Rattle.std.specs.List.{All, AllByRecursion, sum_by}
 use Rattle.registry_model.specs.Process.{Nodes}
 use Rattle.registry_model.specs.Table.{Table}
@@ -75,13 +75,15 @@ pub record AreLastOnes (left : List ℕ) : Type 0 where
   pub set : IsNodeSet left
   pub one : (a b : ℕ) → set_of left a ≡ true → set_of left b ≡ true → name_of a ≡ name_of b → a ≡ b
 
--- The programs of the nodes that ran, of those that a world of names can have. Each tells of its node from its start on, its end is in order, and
--- its node's letters to itself stayed in it. Each letter that was taken of another has the stamp of a step: nobody was told by a line that a node
--- is gone without a word. What each read of another that ran begins what that printed for it, and of one that didn't run it read nothing, and it
--- asked no such one to join. And who had left when a node began ran, and sent it nothing but that it left, by a step whose stamp, and those of
--- the notices behind it, aren't above the one with which it began
+-- The programs of the nodes that ran, of those that a world of names can have: number 0 is that of no name, for no name is the empty text.
+-- Each tells of its node from its start on, its end is in order, and its node's letters to itself stayed in it. Each letter that was taken of
+-- another has the stamp of a step: nobody was told by a line that a node is gone without a word. What each read of another that ran begins
+-- what that printed for it, and of one that didn't run it read nothing, and it asked no such one to join. And who had left when a node began
+-- ran, and sent it nothing but that it left, by a step whose stamp, and those of the notices behind it, aren't above the one with which it
+-- began
 pub record ArePrograms (o : NamedOpening) (ran : Nodes) (programs : ℕ → Program) : Type 0 where
   pub numbers : o.last ≡ last_u32
+  pub nameless : in_world (opening_of o) 0 ≡ false
   pub inside : (n : ℕ) → ran n ≡ true → in_world (opening_of o) n ≡ true
   pub founder : (n : ℕ) → in_cluster (opening_of o) n ≡ true → (ran n ≡ true) × ((programs n).left ≡ [])
   pub nodes : (n : ℕ) → ran n ≡ true → (programs n).end.node ≡ n

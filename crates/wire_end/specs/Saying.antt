@@ -1,6 +1,6 @@
 -- What an end takes of the letters that come, and of those of its node to itself: such as the nodes may say that it knows of. So no letter names
 -- a node that hasn't started, as far as the node was told.
-use Rattle.std.specs.Prelude.{ℕ, Bool, true, ◌==◌, ◌&&◌, not, List, [], ◌∷◌, map}
+use Rattle.std.specs.Prelude.{ℕ, Bool, true, ◌==◌, ◌&&◌, not, List, ◌∷◌, map}
 use Rattle.std.specs.List.{list_all}
 use Rattle.registry_model.specs.Table.{Table, is_rising}
 use Rattle.term.specs.NodeSets.{set_of, with_older}
@@ -9,7 +9,6 @@ use Rattle.letter_lines.specs.declared.Letter.TheVariants as letter
 use Rattle.letter_lines.specs.declared.part.Part.{Part}
 use Rattle.letter_lines.specs.declared.part.Part.TheVariants as part
 use Rattle.letter_lines.specs.Gathered.{Gathered}
-use Rattle.wire_end.specs.declared.wire.Wire.{Wire}
 use Rattle.wire_end.specs.declared.wire_end.Wiring.{Wiring}
 
 -- the nodes at present, as far as an end knows: its own, and those that it has links with

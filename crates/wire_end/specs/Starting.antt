@@ -1,5 +1,5 @@
 -- The next node of another one's name has started.
-use Rattle.std.specs.Prelude.{ℕ, Bool, true, ◌≡◌, ◌==◌, ◌&&◌, ◌||◌, not, is_some, map, List, if◌then◌else◌}
+use Rattle.std.specs.Prelude.{ℕ, Bool, true, ◌≡◌, ◌==◌, ◌&&◌, ◌||◌, not, is_some, map, if◌then◌else◌}
 use Rattle.std.specs.List.{list_all}
 use Rattle.term.specs.Nodes.{name_of}
 use Rattle.node_loop.specs.NodeCoreHeld.{IsNext}
