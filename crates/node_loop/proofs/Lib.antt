@@ -17,6 +17,7 @@ pub mod Owing
 pub mod Updates
 pub mod Standing
 mod Starting
+mod Present
 pub mod Keeping
 mod DoingFrom
 mod StandingFrom

@@ -178,13 +178,11 @@ impl<N: Names<Memory = Global>, L: Record> NodeLoop<N, L> {
         self.core.world().contains(node)
     }
 
-    /// Whether its node was told that this one has left, or a younger one of that name.
+    /// Whether its node was told that this one has left, or a younger one of that name. It isn't told so of itself.
     pub fn was_told(&self, node: &Node) -> bool
         ensures told { result ≡ with_older self.now.core.told node.now }
         ensures another { result ≡ true → node.now ≡ self.now.core.name → ⊥ }
     {
-        // A node isn't told of itself.
-        let _members = self.core.members();
         self.core.told().reaches(node)
     }
 

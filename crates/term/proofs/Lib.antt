@@ -19,3 +19,4 @@ pub mod Serials
 pub mod Texts
 pub mod Subsets
 pub mod Succeeded
+pub mod Mapping

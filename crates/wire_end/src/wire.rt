@@ -102,6 +102,7 @@ impl Wire {
         self.parts.clear();
         self.is_down = true;
     }
+
     /// Where it is the link with the first of these nodes, it is one with the second now, on which nothing came or went.
     pub(crate) fn open_anew(&mut self, older: &Node, next: &Node)
         ensures { self.new ≡ opened_anew older.now next.now self.old }
