@@ -82,6 +82,7 @@ CALLS = [
     shows("short_version", "-V", VERSION),
     Call("script", ["script"], 0, b"a.1\n"),
     Call("node", ["node", "a", "b,a"], 0, b"error bad_line\nerror bad_line\n"),
+    Call("later_node", ["node", "a/2", "b,a"], 0, b"error bad_line\nerror bad_line\n"),
     refuses("no_arguments"),
     refuses("empty_argument", ""),
     refuses("unknown_word", "nonsense"),
@@ -146,7 +147,8 @@ CALLS = [
     refuses_node("node_with_an_empty_name", "empty", "", "a,b"),
     refuses_node("node_with_a_long_name", "too_long", "n" * 65, "a,b"),
     refuses_node("node_with_a_bad_byte", "bad_byte", "a!", "a,b"),
-    refuses_node("node_with_a_creation", "bad_byte", "a/2", "a,b"),
+    refuses_node("node_with_a_bad_creation", "bad_creation", "a/1", "a,b"),
+    refuses_node("later_node_that_is_not_of_its_list", "no_such_node", "c/2", "a,b"),
     refuses_node("empty_list_of_a_node", "empty", "a", ""),
     refuses_node("list_of_a_node_with_an_empty_name", "empty", "a", "a,,b"),
     refuses_node("list_of_a_node_with_a_bad_byte", "bad_byte", "a", "a,b!"),
@@ -168,7 +170,7 @@ def check(program, call):
     expect_text("standard output", call.output, ran.stdout)
     expect_text("standard error", call.errors, ran.stderr)
     expect_status(call.status, ran.returncode)
-    if is_read and call.name not in ["script", "node"]:
+    if is_read and call.name not in ["script", "node", "later_node"]:
         raise Failure("it read its input")
 
 

@@ -21,7 +21,7 @@ from .programs import run
 
 # What the scenarios are called, the longest first.
 SCENARIOS = (
-    "starters lives kills restarts writes locks chances returns cuts torn names clashes terms leaves singleton programs refusals"
+    "lives starters chances kills restarts writes forgets locks returns cuts torn names clashes terms leaves singleton programs refusals"
 ).split()
 # How many seconds a scenario waits for each thing that has to come about, and how many it may take in all. They end one that is stuck; what
 # is waited for comes within seconds, unless the machine has much else to do.
@@ -50,8 +50,8 @@ def left_out(program):
     missing = [it for it in TOOLS if not shutil.which(it)]
     if missing:
         return f"{missing[0]} isn't there (apt-get install --no-install-recommends make erlang-base erlang-dev erlang-crypto erlang-eunit)"
-    if not runs_node(program, "a"):
-        return "the program runs no nodes"
+    if not all(runs_node(program, node) for node in ("a", "a/2")):
+        return "the program runs no nodes, or no later ones of a name"
     return None
 
 
@@ -128,8 +128,6 @@ def told(command, seconds, environment, home):
 def play(program, built, scenario):
     words = ["-kernel", "logger_level", "emergency", "-run", "yaltzumin_scenarios", "main", scenario]
     more = {"YALTZUMIN_PROGRAM": program.path, "YALTZUMIN_SECONDS": str(WAITED)}
-    if runs_node(program, "a/2"):
-        more["YALTZUMIN_LATER"] = "yes"
     control(built, words, PLAYED, **more)
 
 

@@ -1,7 +1,7 @@
 %% @doc Lines of the program `cluster_main node': what it is told, and what it prints.
 -module(yaltzumin_line).
--export([ask/2, letter/2, down/1, started/1, founds/0, tick/0]).
--export([read/1, mentions/1, asks_global/1]).
+-export([ask/2, letter/2, down/1, started/1, founds/0, behind/2, tick/0]).
+-export([read/1, mentions/1, nodes/1, asks_global/1]).
 
 -export_type([tag/0, printed/0]).
 
@@ -45,6 +45,10 @@ started(Node) -> [<<"started ">>, Node, $\n].
 -spec founds() -> iodata().
 founds() -> <<"founds\n">>.
 
+%% @doc These nodes have left, of each name the last, by steps with no greater stamps.
+-spec behind(Stamp :: non_neg_integer(), [text(), ...]) -> iodata().
+behind(Stamp, Nodes) -> [<<"behind ">>, integer_to_binary(Stamp), $\s, lists:join($,, Nodes), $\n].
+
 %% @doc Time went by.
 -spec tick() -> iodata().
 tick() -> <<"tick\n">>.
@@ -85,6 +89,14 @@ mentions(Letter) ->
         [_, _, <<"+notice">>, _Receiver, Name] -> {[Name], []};
         [_, _, <<"+notice">>, _Receiver, Name, Other] -> {[Name], [Other]};
         _ -> {[], []}
+    end.
+
+%% @doc The nodes that a letter tells of, which have started.
+-spec nodes(Letter :: binary()) -> [text()].
+nodes(Letter) ->
+    case binary:split(Letter, <<" ">>, [global]) of
+        [_, _, Word, Node] when Word =:= <<"+member">>; Word =:= <<"+told">>; Word =:= <<"admit">> -> [Node];
+        _ -> []
     end.
 
 %% @doc Whether a letter asks for the lock under which names are changed.

@@ -3,7 +3,7 @@
 %% gone without a word, those that live tell each other, and each hands on to its program what it hadn't got, before it says that the node
 %% is gone. So a write that came to one of them as a whole comes to all.
 -module(yaltzumin_losses).
--export([new/0, heard/3, report/2, admits/2]).
+-export([new/0, heard/3, stamp/1, report/2, admits/2]).
 -export([begins/3, reported/4, without/2, over/1, dying/1, is_dying/2]).
 
 -export_type([losses/0, report/0]).
@@ -19,6 +19,8 @@
                is_closed = false :: boolean()}).
 
 -record(losses, {links = #{} :: #{text() => #link{}},
+                 %% The greatest stamp of all lines that came.
+                 stamp = 0 :: non_neg_integer(),
                  %% Of each node that is gone, who is waited for.
                  waits = #{} :: #{text() => [text()]},
                  %% What others told of a node that is gone, or that this one still sees.
@@ -32,13 +34,17 @@ new() -> #losses{}.
 
 %% @doc A line of a link came: its number, its stamp and its text.
 -spec heard(text(), Letter :: binary(), losses()) -> losses().
-heard(From, Letter, #losses{links = Links} = Losses) ->
+heard(From, Letter, #losses{links = Links, stamp = Greatest} = Losses) ->
     [Number, Rest] = binary:split(Letter, <<" ">>),
     [Digits, Text] = binary:split(Rest, <<" ">>),
     Stamp = binary_to_integer(Digits),
     Link = maps:get(From, Links, #link{}),
     Next = came(kind(Text), Stamp, Text, Link#link{number = binary_to_integer(Number), stamp = Stamp}),
-    Losses#losses{links = Links#{From => Next}}.
+    Losses#losses{links = Links#{From => Next}, stamp = max(Stamp, Greatest)}.
+
+%% @doc The greatest stamp of all lines that came, from whomever: that of a node's last letter isn't above it.
+-spec stamp(losses()) -> non_neg_integer().
+stamp(#losses{stamp = Stamp}) -> Stamp.
 
 came(written, Stamp, Text, #link{write = {Stamp, Texts}} = Link) -> Link#link{write = {Stamp, [Text | Texts]}};
 came(written, Stamp, Text, Link) -> Link#link{write = {Stamp, [Text]}};
@@ -95,8 +101,8 @@ over(#losses{waits = Waits} = Losses) ->
     Nodes = [Node || {Node, []} <- lists:sort(maps:to_list(Waits))],
     {[{Node, missing(Node, Losses)} || Node <- Nodes], lists:foldl(fun forget/2, Losses, Nodes)}.
 
-forget(Node, #losses{links = Links, waits = Waits, reports = Reports}) ->
-    #losses{links = maps:remove(Node, Links), waits = maps:remove(Node, Waits), reports = maps:remove(Node, Reports)}.
+forget(Node, #losses{links = Links, waits = Waits, reports = Reports} = Losses) ->
+    Losses#losses{links = maps:remove(Node, Links), waits = maps:remove(Node, Waits), reports = maps:remove(Node, Reports)}.
 
 missing(Node, #losses{links = Links, reports = Reports}) ->
     Whole = [Report || {_, _} = Report <- maps:values(maps:get(Node, Reports, #{}))],

@@ -2,9 +2,9 @@
 %% with a hello, which tells who its sender is, and as whom it knows the receiver. They are linked once each knows the other. Letters to a
 %% node wait for its hello. What the program is to be told of nodes is given back as its lines.
 -module(yaltzumin_peers).
--export([new/4, me/1, is_joined/1, members/1, told/1, set_state/3]).
--export([survey/2, asked/2, greet/2, greet_all/2, greeted/2, reconnect/1]).
--export([left/2, has_left/2, is_linked_from/2, refuse/2, parted/2]).
+-export([new/5, me/1, is_joined/1, members/1, told/1, set_state/3]).
+-export([survey/2, beginning/2, asked/2, greet/2, greet_all/2, greeted/2, reconnect/1]).
+-export([left/2, has_left/2, named/2, is_linked_from/2, refuse/2, parted/2]).
 -export([heard/3, lost/2, torn/2, outlives/1]).
 -export([carry/4, contact/1, is_synchronous/2]).
 
@@ -14,10 +14,11 @@
 -type stage() :: {Creation :: pos_integer(), alive | gone}.
 %% How far the nodes of a name are known: to this creation, and whether that one is gone, too. A later one is greater.
 -type batch() :: {Letters :: [binary()], [yaltzumin_table:known()]}.
--type standing() :: #{text := text() | none, joined := boolean(), members := [text()], told := [text()]}.
-%% How a node stands: who it is, whether it is joined, its members, and the last of each name that it was told has left.
+-type standing() :: #{text := text() | none, joined := boolean(), members := [text()], told := [text()], stamp := non_neg_integer()}.
+%% How a node stands: who it is, whether it is joined, its members, the last of each name that it was told has left, and a stamp that no step of
+%% these is above.
 -type hello() :: #{node := node(), pid := pid(), text := text(), joined := boolean(), members := [text()], told := [text()],
-                   knows := text() | none, answer := boolean()}.
+                   stamp := non_neg_integer(), knows := text() | none, answer := boolean()}.
 -type parted() :: #{text := text(), joined := boolean(), members := [text()], left := text(), answer := boolean()}.
 %% The sender was told that a node has left, which lives.
 -type loss() :: #{gone := text(), from := text(), pid := pid(), joined := boolean(), members := [text()],
@@ -33,6 +34,8 @@
                 members :: [text()],
                 nodes = #{} :: #{node() => #peer{}},
                 stages = #{} :: #{node() => stage()},
+                %% The greatest stamp that this node was told of, but for those of letters that it had itself.
+                stamp = 0 :: non_neg_integer(),
                 held = #{} :: #{text() => [batch()]},
                 losses = yaltzumin_losses:new() :: yaltzumin_losses:losses(),
                 %% Who told of the loss of a node that this one sees, and isn't answered yet.
@@ -46,10 +49,15 @@
 %% is for one that hangs.
 -define(SURVEY, 60000).
 
-%% @doc Nobody is known but the node itself, of these nodes, with this text, which founds its cluster or is lone.
--spec new([node()], text(), Founds :: boolean(), [text()]) -> {iodata(), peers()}.
-new(World, Me, Founds, Told) ->
-    depart_all(Told, #peers{world = World, me = Me, joined = Founds, members = [Me]}).
+%% @doc Nobody is known but the node itself, of these nodes, with this text, which founds its cluster or is lone. These have left, of each name
+%% the last, by steps with no greater stamps: a lone node is told all of it by its first line.
+-spec new([node()], text(), Founds :: boolean(), [text()], Stamp :: non_neg_integer()) -> {iodata(), peers()}.
+new(World, Me, Founds, Left, Stamp) ->
+    {Lines, Peers} = depart_all(Left, #peers{world = World, me = Me, joined = Founds, members = [Me], stamp = Stamp}),
+    case Founds orelse Left =:= [] of
+        true -> {Lines, Peers};
+        false -> {yaltzumin_line:behind(Stamp, Left), Peers}
+    end.
 
 %% @doc The text of this node.
 -spec me(peers()) -> text().
@@ -72,6 +80,9 @@ told(#peers{stages = Stages, losses = Losses}) ->
     Names = [yaltzumin_text:node_of(Node) || Node <- Dying],
     lists:sort(Dying ++ [It || It <- Gone, not lists:member(yaltzumin_text:node_of(It), Names)]).
 
+%% A stamp that is no less than that of the last letter of any node that has left, as far as this one knows.
+stamp(#peers{stamp = Stamp, losses = Losses}) -> max(Stamp, yaltzumin_losses:stamp(Losses)).
+
 last_gone({Creation, gone}) -> Creation;
 last_gone({Creation, alive}) -> Creation - 1.
 
@@ -82,18 +93,36 @@ set_state(Joined, Members, Peers) ->
 
 %% ------------------------------------------------------------------------------------------------------------ the start
 
-%% @doc Asks the servers of all nodes that are connected how they stand: which creation this node is to be, and who has left. Of two
-%% sides that parted, the one counts that others come back to. That a node has left which answers isn't believed.
--spec survey([node()], Connects :: boolean()) -> {Creation :: pos_integer(), AnyJoined :: boolean(), Told :: [text()]}.
+%% @doc Asks the servers of all nodes that are connected how they stand: which creation this node is to be, who has left, of each name the last,
+%% and a stamp that is no less than those of their steps. Of two sides that parted, the one counts that others come back to. That a node
+%% has left which answers isn't believed, but those before it have.
+-spec survey([node()], Connects :: boolean()) ->
+          {Creation :: pos_integer(), AnyJoined :: boolean(), Left :: [text()], Stamp :: non_neg_integer()}.
 survey(World, Connects) ->
     Others = World -- [node()],
     _ = Connects andalso connect(Others),
-    Standings = ask_all([Node || Node <- Others, lists:member(Node, nodes())]),
+    beginning(Others, ask_all([Node || Node <- Others, lists:member(Node, nodes())])).
+
+%% @doc The same, from how those stand that answered.
+-spec beginning(Others :: [node()], [standing()]) ->
+          {Creation :: pos_integer(), AnyJoined :: boolean(), Left :: [text()], Stamp :: non_neg_integer()}.
+beginning(Others, Standings) ->
     Creation = lists:max([0 | [creation(Text) || #{told := Told} <- Standings, Text <- Told]]) + 1,
-    Present = [Text || #{text := Text} <- Standings],
-    case lists:sort([{rank(Members), Told} || #{joined := true, members := Members, told := Told} <- Standings]) of
-        [{_, Told} | _] -> {Creation, true, Told -- Present};
-        [] -> {Creation, false, lists:append([Told || #{told := Told} <- Standings]) -- Present}
+    Present = [yaltzumin_text:node_parts(Text) || #{text := Text} <- Standings, Text =/= none],
+    Joined = lists:sort([{rank(Members), Told} || #{joined := true, members := Members, told := Told} <- Standings]),
+    Gone = [yaltzumin_text:node_parts(Text) || Text <- told_by(Joined, Standings)],
+    Last = [{node(), Creation - 1} | [{Node, last_left(Node, Present, Gone)} || Node <- Others]],
+    Stamp = lists:max([0 | [It || #{stamp := It} <- Standings]]),
+    {Creation, Joined =/= [], [yaltzumin_text:of_node(Node, It) || {Node, It} <- Last, It > 0], Stamp}.
+
+told_by([{_, Told} | _], _) -> Told;
+told_by([], Standings) -> lists:append([Told || #{told := Told} <- Standings]).
+
+%% The creation of the last node of a name that has left, or 0: the one before the node that answers, or the last one that is told to have left.
+last_left(Node, Present, Gone) ->
+    case lists:keyfind(Node, 1, Present) of
+        {_, Creation} -> Creation - 1;
+        false -> lists:max([0 | [Creation || {It, Creation} <- Gone, It =:= Node]])
     end.
 
 %% Connects to these nodes. Each try ends, after seven seconds where Erlang isn't told otherwise.
@@ -122,7 +151,7 @@ gather(Refs, Standings, Until) ->
     receive
         {who, From, Ref, _Node} ->
             %% It starts, too: this one knows nothing yet.
-            From ! {stands, Ref, #{text => none, joined => false, members => [], told => []}},
+            From ! {stands, Ref, #{text => none, joined => false, members => [], told => [], stamp => 0}},
             gather(Refs, Standings, Until);
         {stands, Ref, Standing} when is_map_key(Ref, Refs) ->
             demonitor(Ref, [flush]),
@@ -139,7 +168,7 @@ gather(Refs, Standings, Until) ->
 asked(Node, Peers0) ->
     {Lines, Peers} = gone(Node, Peers0),
     #peers{me = Me, joined = Joined, members = Members} = Peers,
-    {#{text => Me, joined => Joined, members => Members, told => told(Peers)}, Lines, Peers}.
+    {#{text => Me, joined => Joined, members => Members, told => told(Peers), stamp => stamp(Peers)}, Lines, Peers}.
 
 %% ------------------------------------------------------------------------------------------------------------ hellos
 
@@ -162,7 +191,7 @@ link_to(Nodes) ->
     lists:foreach(fun(Node) -> spawn(net_kernel, connect_node, [Node]) end, Nodes).
 
 send_hello(Node, Answer, #peers{me = Me, joined = Joined, members = Members} = Peers) ->
-    Hello = #{node => node(), pid => self(), text => Me, joined => Joined, members => Members, told => told(Peers),
+    Hello = #{node => node(), pid => self(), text => Me, joined => Joined, members => Members, told => told(Peers), stamp => stamp(Peers),
               knows => known_as(Node, Peers), answer => Answer},
     _ = erlang:send({yaltzumin_server, Node}, {hello, Hello}, [noconnect]),
     ok.
@@ -175,7 +204,8 @@ known_as(Node, #peers{nodes = Nodes}) ->
 
 %% @doc The server of another node says hello.
 -spec greeted(hello(), peers()) -> {iodata(), peers()}.
-greeted(#{text := Text} = Hello, Peers) ->
+greeted(#{text := Text, stamp := Stamp} = Hello, Peers0) ->
+    Peers = Peers0#peers{stamp = max(Stamp, Peers0#peers.stamp)},
     case has_left(Text, Peers) of
         true -> refuse(Text, Peers), {[], Peers};
         false -> greeted_by_next(Hello, Peers)
@@ -404,6 +434,19 @@ steps(Node, {Creation, alive}, Stage) ->
 steps(Node, {Creation, gone}, Stage) ->
     Next = Creation + 1,
     [yaltzumin_line:started(yaltzumin_text:of_node(Node, Next)) | steps(Node, {Next, alive}, Stage)].
+
+%% @doc A letter names these nodes, so they have started, and those before them have left: the program is told so before it is given the letter.
+%% Of a node that this one sees still, or whose loss isn't settled, that is told in its turn.
+-spec named([text()], peers()) -> {iodata(), peers()}.
+named(Texts, Peers) ->
+    lists:mapfoldl(fun named_one/2, Peers, Texts).
+
+named_one(Text, #peers{nodes = Nodes} = Peers) ->
+    {Node, Creation} = yaltzumin_text:node_parts(Text),
+    case is_map_key(Node, Nodes) orelse is_awaited(Node, Peers) of
+        true -> {[], Peers};
+        false -> advanced(Node, {Creation, alive}, Peers)
+    end.
 
 %% @doc Whether this node was told that one has left.
 -spec has_left(text(), peers()) -> boolean().

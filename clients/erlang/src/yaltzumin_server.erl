@@ -94,20 +94,20 @@ opened(#{nodes := World, founder := Founder, connect := Connects} = Options) ->
     Names = yaltzumin_table:own_names(),
     ok = yaltzumin_table:clear(),
     ok = net_kernel:monitor_nodes(true),
-    {Creation, AnyJoined, Told} = yaltzumin_peers:survey(World, Connects),
+    {Creation, AnyJoined, Left, Stamp} = yaltzumin_peers:survey(World, Connects),
     Founds = node() =:= Founder andalso Creation =:= 1 andalso not AnyJoined,
     Me = yaltzumin_text:of_node(node(), Creation),
-    {Downs, Peers} = yaltzumin_peers:new(World, Me, Founds, Told),
+    {Begins, Peers} = yaltzumin_peers:new(World, Me, Founds, Left, Stamp),
     case open_program(Options, Me) of
         {ok, Port} ->
-            State = #state{port = Port, peers = Peers, connects = Connects, lines = [[yaltzumin_line:founds() || Founds], Downs]},
-            started(Names, Creation, State);
+            State = #state{port = Port, peers = Peers, connects = Connects, lines = [[yaltzumin_line:founds() || Founds], Begins]},
+            started(Names, State);
         {error, Why} ->
             {stop, Why}
     end.
 
-%% The program is open once it answers its first question. A program that runs first nodes alone refuses to be a later one.
-started(Names, Creation, State0) ->
+%% The program is open once it answers its first question.
+started(Names, State0) ->
     Opens = fun(_, S) -> S end,
     case first_answer(written(asks([<<"steps">>], Opens, State0))) of
         {ok, State1} ->
@@ -116,9 +116,6 @@ started(Names, Creation, State0) ->
             erlang:send_after(?SWEEPING, self(), sweep),
             erlang:send_after(?AROUND, self(), around),
             {ok, turned(State)};
-        %% It refused its arguments. What was written may have found that it had ended, before its status was told.
-        {ended, Why} when Creation > 1, Why =:= 2 orelse Why =:= epipe ->
-            {stop, {name_spent, node()}};
         {ended, Why} ->
             {stop, {program_ended, Why}}
     end.
@@ -371,9 +368,11 @@ told(_, State) ->
 knows({Lines, Peers}, State) ->
     tells(Lines, State#state{peers = Peers}).
 
-%% A letter came. Whoever asks for the lock of names is a rival, and who gave way to rivals goes on.
-heard(From, Letter, #state{peers = Peers, rivals = Rivals, gives_way = Timer} = State) ->
-    Heard = tells(yaltzumin_line:letter(From, Letter), State#state{peers = yaltzumin_peers:heard(From, Letter, Peers)}),
+%% A letter came. The program is told before of the nodes that it names. Whoever asks for the lock of names is a rival, and who gave way to
+%% rivals goes on.
+heard(From, Letter, #state{peers = Peers0, rivals = Rivals, gives_way = Timer} = State) ->
+    {Lines, Peers} = yaltzumin_peers:named(yaltzumin_line:nodes(Letter), Peers0),
+    Heard = tells([Lines | yaltzumin_line:letter(From, Letter)], State#state{peers = yaltzumin_peers:heard(From, Letter, Peers)}),
     case yaltzumin_line:asks_global(Letter) of
         true ->
             _ = Timer =:= none orelse erlang:cancel_timer(Timer),

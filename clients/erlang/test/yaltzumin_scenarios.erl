@@ -2,7 +2,7 @@
 %% came as it should.
 -module(yaltzumin_scenarios).
 -export([main/1, names/0, terms/0, clashes/0, locks/0, restarts/0, starters/0, leaves/0, kills/0, programs/0, singleton/0, refusals/0]).
--export([returns/0, lives/0, cuts/0, torn/0, writes/0, chances/0]).
+-export([returns/0, lives/0, forgets/0, cuts/0, torn/0, writes/0, chances/0]).
 
 -import(yaltzumin_nodes, [call/4, cluster/1, cluster/2, expect/3, kill/1, name/1, program_pid/1, run/2, run/3, settled/1, start/1, stop/1,
                           until/1, until/2, until/3]).
@@ -221,7 +221,7 @@ are_equal(Nodes) ->
         _ -> false
     end.
 
-%% The program of a node is killed: the others go on, with the next one of that node, or without it where the program runs first nodes alone.
+%% The program of a node is killed: the others go on, and the next one of that node with them.
 programs() ->
     [A, B, C] = Nodes = cluster(["g1", "g2", "g3"]),
     {yes, P} = at(C, registered, [on_c]),
@@ -229,17 +229,9 @@ programs() ->
     ok = at(C, asks_on, [50]),
     kill_program(C),
     expect("who asked there was answered by an exit", 50, length([Why || Why <- at(C, asked, []), Why =/= normal])),
-    case runs_later_nodes() of
-        true ->
-            until(creation, fun() -> creation(C) end, <<"g3@localhost/2">>),
-            settled(Nodes),
-            owned(Nodes, on_c, P);
-        false ->
-            until(ended, fun() -> call(C, erlang, whereis, [yaltzumin_sup]) end, undefined),
-            settled([A, B]),
-            gone([A, B], on_c),
-            {yes, _} = at(B, registered, [on_c])
-    end,
+    until(creation, fun() -> creation(C) end, <<"g3@localhost/2">>),
+    settled(Nodes),
+    owned(Nodes, on_c, P),
     expect("a name of another node", 1, length(owners([A, B], on_a))),
     stopped(Nodes).
 kill_program(Node) ->
@@ -248,8 +240,6 @@ kill_program(Node) ->
 signal(Node, Signal) ->
     _ = os:cmd("kill -" ++ Signal ++ " " ++ integer_to_list(program_pid(Node))),
     ok.
-runs_later_nodes() ->
-    os:getenv("YALTZUMIN_LATER") =/= false.
 creation(Node) ->
     try maps:get(node, ask(Node, info, [])) catch _:_ -> none end.
 
@@ -290,25 +280,18 @@ refusals() ->
 has(Text, Word) ->
     expect(Text, true, string:find(Text, Word) =/= nomatch).
 
-%% A node that was killed comes back under its name as the next of it, or is refused where the program runs first nodes alone.
+%% A node that was killed comes back under its name as the next of it.
 returns() ->
     [A, B, C] = cluster(["g1", "g2", "g3"]),
     {yes, _} = at(C, registered, [on_c]),
     kill(C),
     gone([A, B], on_c),
     settled([A, B]),
-    D = start("g3"),
-    came_back(runs_later_nodes(), run(D, ["g1", "g2", "g3"]), [A, B, D]).
-
-came_back(false, {error, {yaltzumin, Why}}, [A, B, C]) ->
-    has(lists:flatten(io_lib:format("~0p", [Why])), "name_spent"),
-    {yes, _} = at(A, registered, [on_c]),
-    settled([A, B]),
-    stopped([A, B, C]);
-came_back(true, ok, [_, _, C] = Nodes) ->
+    D = came_up(C),
+    Nodes = [A, B, D],
     settled(Nodes),
-    expect("its creation", <<"g3@localhost/2">>, creation(C)),
-    {yes, P} = at(C, registered, [on_c]),
+    expect("its creation", <<"g3@localhost/2">>, creation(D)),
+    {yes, P} = at(D, registered, [on_c]),
     expect("its name everywhere", [P], owners(Nodes, on_c)),
     [at(Node, churn, [Seed]) || {Seed, Node} <- lists:zip([1, 2, 3], Nodes)],
     Last = lists:foldl(fun killed_and_back/2, Nodes, [2, 3, 1, 3, 2]),
@@ -317,45 +300,79 @@ came_back(true, ok, [_, _, C] = Nodes) ->
     stopped(Last).
 killed_and_back(Place, Nodes) ->
     go_on(Nodes),
-    Node = lists:nth(Place, Nodes),
-    kill(Node),
-    Next = start(hd(string:lexemes(atom_to_list(name(Node)), "@"))),
-    ok = run(Next, ["g1", "g2", "g3"]),
-    Now = lists:sublist(Nodes, Place - 1) ++ [Next | lists:nthtail(Place, Nodes)],
-    settled(Now),
+    kill(lists:nth(Place, Nodes)),
+    Now = [{_, Next} | _] = back(Place, Nodes),
+    settled([Node || {_, Node} <- Now]),
     at(Next, churn, [Place]),
-    Now.
-
-%% A cluster that lives on through many restarts of its nodes. Where the program runs first nodes alone a name comes back when all have
-%% ended that saw it go: so the application is stopped everywhere then, and started again.
-lives() ->
-    World = ["g1", "g2", "g3"],
-    stopped(lists:foldl(fun(Round, Nodes) -> lives_on(runs_later_nodes(), Round, Nodes) end, cluster(World), lists:seq(1, 10))).
-
-lives_on(true, Round, Nodes) ->
-    lists:foldl(fun(Place, It) -> named_by_all(Round, It), killed_and_back(Place, It) end, Nodes, [1, 3, 2]);
-lives_on(false, Round, [A, B, C] = Nodes) ->
-    named_by_all(Round, Nodes),
-    kill(C),
-    settled([A, B]),
-    gone([A, B], {lives, 3}),
-    expect("it leaves", ok, ask(B, leave, [])),
-    settled([A]),
-    gone([A], {lives, 2}),
-    expect("the last one leaves", ok, ask(A, leave, [])),
-    Next = [A, B, start("g3")],
-    [ok = run(Node, ["g1", "g2", "g3"]) || Node <- Next],
-    settled(Next),
-    expect("no name of a life before", [[], [], []], [ask(Node, registered_names, []) || Node <- Next]),
+    [Node || {_, Node} <- lists:sort(Now)].
+%% These nodes, where the one at this place came up again; it is the first, and each has its place.
+back(Place, Nodes) ->
+    [{Place, came_up(lists:nth(Place, Nodes))} | [Other || {It, _} = Other <- lists:zip(lists:seq(1, length(Nodes)), Nodes), It =/= Place]].
+%% A node that was killed is started again, in the same world.
+came_up(Node) ->
+    came_up(Node, ["g1", "g2", "g3"]).
+came_up(Node, World) ->
+    Next = start(hd(string:lexemes(atom_to_list(name(Node)), "@"))),
+    ok = run(Next, World),
     Next.
 
+%% A cluster that lives on while its nodes go one after another, and come back: killed in one round, and in order in the next. None of those that
+%% it began with is left then, and who registers a name has it everywhere.
+lives() ->
+    Nodes = cluster(["g1", "g2", "g3"]),
+    Last = lists:foldl(fun lives_on/2, Nodes, lists:seq(1, 10)),
+    expect("their creations", [<<"g1@localhost/11">>, <<"g2@localhost/11">>, <<"g3@localhost/11">>], [creation(Node) || Node <- Last]),
+    stopped(Last).
+lives_on(Round, Nodes) ->
+    lists:foldl(fun(Place, It) -> named_by_all(Round, It), next_of(Round rem 2, Place, It) end, Nodes, [1, 3, 2]).
+next_of(Kind, Place, Nodes) ->
+    Node = lists:nth(Place, Nodes),
+    Others = Nodes -- [Node],
+    case Kind of
+        1 -> kill(Node);
+        0 -> ok = ask(Node, leave, []), stop(Node)
+    end,
+    settled(Others),
+    gone(Others, {lives, Place}),
+    Now = back(Place, Nodes),
+    settled([It || {_, It} <- Now]),
+    [It || {_, It} <- lists:sort(Now)].
 named_by_all(Round, Nodes) ->
-    Named = [{Place, element(2, {yes, _} = at(Node, registered, [{lives, Place}]))} || {Place, Node} <- lists:zip([1, 2, 3], Nodes)],
-    [expect({"a name of round", Round}, [Pid], owners(Nodes, {lives, Place})) || {Place, Pid} <- Named],
-    [ok = ask(hd(Nodes), unregister_name, [{lives, Place}]) || {Place, _} <- Named, runs_later_nodes()].
+    Named = [{Place, named(Place, Node, Nodes)} || {Place, Node} <- lists:zip([1, 2, 3], Nodes)],
+    [expect({"a name of round", Round}, [Pid], owners(Nodes, {lives, Place})) || {Place, Pid} <- Named].
+%% The process that has the name of a place, which may be there from a turn before.
+named(Place, Node, Nodes) ->
+    case owners(Nodes, {lives, Place}) of
+        [undefined] -> {yes, Pid} = at(Node, registered, [{lives, Place}]), Pid;
+        [Pid] -> Pid
+    end.
+
+%% Nobody is left who saw the first nodes go: the names come back all the same, since who starts is told by those that are there.
+forgets() ->
+    [A, B] = cluster(["g1", "g2"]),
+    kill(A),
+    settled([B]),
+    A2 = came_up(A, ["g1", "g2"]),
+    settled([A2, B]),
+    kill(B),
+    settled([A2]),
+    B2 = came_up(B, ["g1", "g2"]),
+    settled([A2, B2]),
+    kill(A2),
+    settled([B2]),
+    A3 = came_up(A, ["g1", "g2"]),
+    settled([A3, B2]),
+    expect("their creations", [<<"g1@localhost/3">>, <<"g2@localhost/2">>], [creation(Node) || Node <- [A3, B2]]),
+    {yes, P} = at(A3, registered, [on_a]),
+    owned([A3, B2], on_a, P),
+    stopped([A3, B2]),
+    %% Where all have ended, all begin as first nodes.
+    [A4, B4] = cluster(["g1", "g2"]),
+    expect("their creations again", [<<"g1@localhost">>, <<"g2@localhost">>], [creation(Node) || Node <- [A4, B4]]),
+    stopped([A4, B4]).
 
 %% All connections of a node are cut, and can't be had: each side goes on by itself. When they can be had again the lesser side starts
-%% anew, or ends where the program runs first nodes alone.
+%% anew.
 cuts() ->
     [A, B, C] = Nodes = cluster(["g1", "g2", "g3"]),
     {yes, P} = at(C, registered, [on_c]),
@@ -366,20 +383,14 @@ cuts() ->
     {yes, Q} = at(A, registered, [both]),
     [call(C, erlang, set_cookie, [name(Node), yaltzumin]) || Node <- [A, B]],
     begun_anew(C, [A, B]),
-    _ = runs_later_nodes() andalso owned(Nodes, on_c, P),
-    owned([A, B], both, Q),
+    owned(Nodes, on_c, P),
+    owned(Nodes, both, Q),
     stopped(Nodes).
 
-%% A node starts anew, and is joined with these again, or ends where the program runs first nodes alone.
+%% A node starts anew, and is joined with these again.
 begun_anew(Node, Others) ->
-    case runs_later_nodes() of
-        true ->
-            settled(Others ++ [Node]),
-            expect("its creation", <<(atom_to_binary(name(Node)))/binary, "/2">>, creation(Node));
-        false ->
-            until(ended, fun() -> call(Node, erlang, whereis, [yaltzumin_sup]) end, undefined),
-            settled(Others)
-    end.
+    settled(Others ++ [Node]),
+    expect("its creation", <<(atom_to_binary(name(Node)))/binary, "/2">>, creation(Node)).
 
 %% The connection between two nodes is torn while a third sees both: one of them can't stay, and the others go on as one cluster.
 torn() ->
@@ -395,9 +406,9 @@ torn() ->
     call(C, erlang, set_cookie, [name(A), yaltzumin]),
     pong = call(C, net_adm, ping, [name(A)]),
     begun_anew(C, [A, B]),
-    _ = runs_later_nodes() andalso owned(Nodes, on_c, Q),
-    owned([A, B], on_a, P),
-    owned([A, B], meanwhile, R),
+    owned(Nodes, on_c, Q),
+    owned(Nodes, on_a, P),
+    owned(Nodes, meanwhile, R),
     stopped(Nodes).
 
 %% A node dies in the middle of a write, which came to one member and not to another: it comes to both. So is it with an admission. Where the
@@ -452,8 +463,8 @@ dies({Peer, _}, Ask) ->
     spawn(Ask),
     receive {'DOWN', Ref, _, _, _} -> ok end.
 
-%% Nodes and programs are killed by chance while all register and lock: as many clusters as the environment tells, or two. Of each five nodes
-%% three are killed, the next one now and then before the others have settled.
+%% Nodes and programs are killed by chance while all register and lock, and come back: as many clusters as the environment tells, or two. In each
+%% of five nodes six are killed, the next one now and then before the others have settled.
 chances() ->
     Clusters = list_to_integer(os:getenv("YALTZUMIN_CLUSTERS", "2")),
     From = list_to_integer(os:getenv("YALTZUMIN_SEED", "1")),
@@ -463,25 +474,33 @@ chance(Seed) ->
         rand:seed(exsss, Seed),
         Nodes = cluster(["g1", "g2", "g3", "g4", "g5"]),
         [at(Node, churn, [Seed * 10 + Place]) || {Place, Node} <- lists:zip(lists:seq(1, 5), Nodes)],
-        {Left, Ended} = lists:foldl(fun(_, Sides) -> killed_by_chance(Sides) end, {Nodes, []}, [1, 2, 3]),
-        settled(Left),
-        go_on(Left),
-        churned(Left),
-        {yes, P} = at(hd(Left), registered, [fin]),
-        expect("a name in the end", [P], owners(Left, fin)),
-        stopped(Left ++ Ended)
+        Last = lists:foldl(fun killed_by_chance/2, Nodes, lists:seq(1, 6)),
+        settled(Last),
+        go_on(Last),
+        churned(Last),
+        {yes, P} = at(hd(Last), registered, [fin]),
+        expect("a name in the end", [P], owners(Last, fin)),
+        stopped(Last)
     of _ ->
         io:format("seed ~w: well~n", [Seed])
     catch
         error:Why:Where -> erlang:raise(error, {{seed, Seed}, Why}, Where)
     end.
-killed_by_chance({Nodes, Ended}) ->
+killed_by_chance(Time, Nodes) ->
     timer:sleep(rand:uniform(300)),
-    Node = lists:nth(rand:uniform(length(Nodes)), Nodes),
-    Left = Nodes -- [Node],
-    More = case rand:uniform(3) of
-        1 -> kill_program(Node), [Node];
-        _ -> kill(Node), []
+    Place = rand:uniform(length(Nodes)),
+    Node = lists:nth(Place, Nodes),
+    Next = case rand:uniform(3) of
+        1 ->
+            %% What registers and locks there goes on, once the next server is there.
+            kill_program(Node),
+            Node;
+        _ ->
+            kill(Node),
+            It = came_up(Node, ["g1", "g2", "g3", "g4", "g5"]),
+            at(It, churn, [Time]),
+            It
     end,
-    _ = rand:uniform(3) =:= 1 orelse settled(Left),
-    {Left, More ++ Ended}.
+    Now = lists:sublist(Nodes, Place - 1) ++ [Next | lists:nthtail(Place, Nodes)],
+    _ = rand:uniform(3) =:= 1 orelse settled(Now),
+    Now.

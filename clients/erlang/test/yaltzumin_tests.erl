@@ -48,7 +48,10 @@ lines_test_() ->
      ?_assertEqual({[<<"x">>], [<<"a.1">>]}, yaltzumin_line:mentions(<<"3 9 +pair x a.1 exit">>)),
      ?_assertEqual({[<<"x">>], []}, yaltzumin_line:mentions(<<"3 9 +notice a.1 x">>)),
      ?_assertEqual({[<<"x">>], [<<"b.1">>]}, yaltzumin_line:mentions(<<"3 9 +notice a.1 x b.1">>)),
-     ?_assertEqual({[], []}, yaltzumin_line:mentions(<<"3 9 remove x">>))].
+     ?_assertEqual({[], []}, yaltzumin_line:mentions(<<"3 9 remove x">>)),
+     ?_assertEqual([<<"b/2">>], lists:append([yaltzumin_line:nodes(Letter) || Letter <- [<<"3 9 admit b/2">>, <<"3 9 put x b/3.1 exit">>, <<"4 9 down">>]])),
+     ?_assertEqual([<<"b/2">>, <<"c">>], yaltzumin_line:nodes(<<"3 9 +member b/2">>) ++ yaltzumin_line:nodes(<<"4 9 +told c">>)),
+     ?_assertEqual(<<"behind 17 a/2,b\n">>, iolist_to_binary(yaltzumin_line:behind(17, [<<"a/2">>, <<"b">>])))].
 
 tables_test_() ->
     {setup, fun yaltzumin_table:new/0, fun(_) -> lists:foreach(fun drop_table/1, ets:all()) end, [fun names_of_owners/0]}.
@@ -166,12 +169,12 @@ waits_test() ->
 -define(ME, <<"nonode@nohost">>).
 
 peers(Founds, Told) ->
-    {Lines, Peers} = yaltzumin_peers:new([node(), 'b@h', 'c@h'], ?ME, Founds, Told),
+    {Lines, Peers} = yaltzumin_peers:new([node(), 'b@h', 'c@h'], ?ME, Founds, Told, 17),
     {iolist_to_binary(Lines), Peers}.
 
 hello(Text, Members, Told) ->
     #{node => yaltzumin_text:node_of(Text), pid => spawn(fun() -> ok end), text => Text, joined => Members =/= lone,
-      members => case Members of lone -> [Text]; _ -> Members end, told => Told, knows => ?ME, answer => false}.
+      members => case Members of lone -> [Text]; _ -> Members end, told => Told, stamp => 0, knows => ?ME, answer => false}.
 
 greeted(Hello, Peers) ->
     {Lines, Next} = yaltzumin_peers:greeted(Hello, Peers),
@@ -180,8 +183,10 @@ greeted(Hello, Peers) ->
 departures_test() ->
     {<<>>, Founder} = peers(true, []),
     ?assert(yaltzumin_peers:is_joined(Founder)),
-    %% What has left is told once, each older one of a name before.
-    {<<"down b@h\nstarted b@h/2\ndown b@h/2\n">>, Told} = peers(false, [<<"b@h/2">>, <<"b@h">>]),
+    %% A node that is lone is told by its first line who has left; one that founds its cluster is told of one after another, each older one of a
+    %% name before.
+    {<<"down b@h\nstarted b@h/2\ndown b@h/2\n">>, _} = peers(true, [<<"b@h/2">>]),
+    {<<"behind 17 b@h/2\n">>, Told} = peers(false, [<<"b@h/2">>]),
     ?assertEqual([<<"b@h/2">>], yaltzumin_peers:told(Told)),
     {<<"started b@h/3\n">>, Third} = greeted(Hello = hello(<<"b@h/3">>, lone, []), Told),
     {<<>>, Third} = greeted(hello(<<"b@h/2">>, lone, []), Third),
@@ -283,6 +288,53 @@ told_test() ->
     {<<"started c@h/2\n">>, _} = greeted(hello(<<"c@h/2">>, lone, [<<"b@h">>]), element(2, greeted(hello(<<"b@h">>, lone, [<<"c@h">>]), Peers))),
     {<<>>, _} = greeted(hello(<<"c@h">>, lone, [<<"b@h">>]), Seen),
     {<<"down b@h\n">>, _} = greeted(hello(<<"c@h">>, lone, [<<"b@h">>]), Peers).
+
+%% Nodes that a letter names have started: the program is told so before, unless this node sees the one before it still.
+named_test() ->
+    {<<>>, Peers} = peers(true, []),
+    Named = fun(Texts, P) -> {Lines, _} = yaltzumin_peers:named(Texts, P), iolist_to_binary(Lines) end,
+    ?assertEqual(<<"down b@h\nstarted b@h/2\n">>, Named([<<"b@h/2">>, <<"c@h">>, ?ME], Peers)),
+    {<<>>, Seen} = greeted(hello(<<"b@h">>, lone, []), Peers),
+    ?assertEqual(<<>>, Named([<<"b@h/2">>], Seen)),
+    {_, Later} = yaltzumin_peers:named([<<"b@h/2">>], Peers),
+    ?assertEqual(<<>>, Named([<<"b@h/2">>], Later)),
+    ?assertEqual([<<"b@h">>], yaltzumin_peers:told(Later)).
+
+%% A node that starts asks those that are there: which one it is of its name, who has left, and behind which stamp.
+beginning_test_() ->
+    Stands = fun(Text, Joined, Members, Told, Stamp) ->
+        #{text => Text, joined => Joined, members => Members, told => Told, stamp => Stamp}
+    end,
+    Begins = fun(Standings) -> yaltzumin_peers:beginning(['b@h', 'c@h', 'd@h'], Standings) end,
+    Starting = Stands(none, false, [], [], 0),
+    Lone = Stands(<<"b@h/2">>, false, [<<"b@h/2">>], [<<"b@h">>, <<"d@h/3">>], 30),
+    Joined = Stands(<<"c@h">>, true, [<<"c@h">>], [<<"b@h">>, ?ME], 20),
+    [?_assertEqual({1, false, [], 0}, Begins([])),
+     ?_assertEqual({1, false, [], 0}, Begins([Starting])),
+     ?_assertEqual({1, false, [<<"b@h">>, <<"d@h/3">>], 30}, Begins([Starting, Lone])),
+     %% Of its own name it is the next one, whoever knows of that, and what others say has left is that of one side.
+     ?_assertEqual({2, true, [?ME, <<"b@h">>], 30}, Begins([Lone, Joined])),
+     ?_assertEqual({2, true, [?ME, <<"b@h/4">>], 20}, Begins([Joined#{told := [<<"b@h/4">>, ?ME]}])),
+     %% That one has left which answers isn't believed, but those before it have.
+     ?_assertEqual({1, true, [<<"b@h">>], 30}, Begins([Lone, Joined#{told := [<<"b@h/2">>]}])),
+     ?_assertEqual({5, true, [<<"nonode@nohost/4">>, <<"b@h">>], 30}, Begins([Lone#{told := [<<"nonode@nohost/4">>]}, Joined]))].
+
+%% Who starts later is told the greatest stamp that this node knows of: of letters, of hellos, or of its own start.
+stamps_test() ->
+    Stamp = fun(P) -> {#{stamp := It}, _, _} = yaltzumin_peers:asked('c@h', P), It end,
+    {_, Started} = peers(false, [<<"b@h">>]),
+    ?assertEqual(17, Stamp(Started)),
+    {_, Greeted} = greeted((hello(<<"b@h/2">>, lone, []))#{stamp := 21}, Started),
+    ?assertEqual(21, Stamp(Greeted)),
+    Heard = yaltzumin_peers:heard(<<"b@h/2">>, <<"2 35 down">>, yaltzumin_peers:heard(<<"b@h/2">>, <<"1 30 join_ask">>, Greeted)),
+    ?assertEqual(35, Stamp(Heard)),
+    %% Also when what came of that node is forgotten.
+    {_, Lines, Gone} = yaltzumin_peers:asked('b@h', Heard),
+    ?assertEqual(<<"down b@h/2\n">>, iolist_to_binary(Lines)),
+    ?assertEqual(35, Stamp(Gone)).
+
+survey_test() ->
+    ?assertEqual({1, false, [], 0}, yaltzumin_peers:survey([node(), 'b@h', 'c@h'], false)).
 
 joins_test() ->
     {<<>>, Lone} = peers(false, []),

@@ -110,8 +110,14 @@ churn(Steps, Holds) ->
         {steps, From} -> From ! {steps, Steps}, churn(Steps, Holds);
         {churned, From} -> From ! {churned, Holds}
     after 0 ->
-        churn(Steps + 1, churn_step(rand:uniform(10), Holds))
+        case tried(rand:uniform(10), Holds) of
+            {made, Next} -> churn(Steps + 1, Next);
+            failed -> churn(Steps, Holds)
+        end
     end.
+%% A step may fail while the server of this node starts anew.
+tried(Kind, Holds) ->
+    try {made, churn_step(Kind, Holds)} catch exit:_ -> timer:sleep(1), failed end.
 churn_step(Kind, Holds) when Kind =< 4 ->
     Pid = owner(),
     case {yaltzumin:register_name(churn_name(), Pid), rand:uniform(3)} of
@@ -125,11 +131,19 @@ churn_step(6, Holds) ->
     yaltzumin:re_register_name(churn_name(), owner()),
     Holds;
 churn_step(_, Holds) ->
-    yaltzumin:trans({churned_lock, self()}, fun() ->
+    Place = place(),
+    Held = yaltzumin:trans({churned_lock, self()}, fun() ->
         From = os:perf_counter(),
         timer:sleep(rand:uniform(3) - 1),
-        [{From, os:perf_counter()} | Holds]
-    end).
+        {From, os:perf_counter()}
+    end),
+    %% Where this node started anew meanwhile, the lock was lost; and what a lone node gives is no lock of the cluster.
+    case place() of
+        {_, true} = Place -> [Held | Holds];
+        _ -> Holds
+    end.
+place() ->
+    {maps:get(node, yaltzumin:info()), yaltzumin:is_joined()}.
 churn_name() ->
     {churned, rand:uniform(12)}.
 

@@ -4,6 +4,7 @@ use Rattle.std.specs.Str.Parse.{ParsesUnsigned, digits_value, starts_with_minus,
 use Rattle.std.proofs.lemmas.Int.{ints}
 use Rattle.clap.specs.Words.{IsSignedIn, ReadsOne, without_minus}
 use Rattle.clap.proofs.CallerReads.{signed_reads}
+use Rattle.term.specs.declared.limits.TheConstants.{MOST_CONSOLES_AT_ONCE, LONGEST_SILENCE}
 use Rattle.arguments.specs.Nodes.{RefusesPlacing}
 use Rattle.arguments.specs.Reading.{Counts, CountsConsoles, CountsSeconds, IsFlagText, RefusesTold, Values, is_set}
 use Rattle.arguments.specs.declared.faults.ArgFault.{ArgFault}
@@ -41,23 +42,23 @@ number_read E G bits most t r only fits passed read =
 
 -- the number of consoles, by the text of its option
 pub counted : (E : Type 0) (G : List ℕ → Result ℕ E → Type 0) (given one : Option (List ℕ)) (r : Option ℕ) (n : ℕ)
-    → ((u : List ℕ) (x : Result ℕ E) → G u x → ParsesUnsigned 16 10 u x) → IfSome given (IsSignedIn (pos 1) (pos 1024))
+    → ((u : List ℕ) (x : Result ℕ E) → G u x → ParsesUnsigned 16 10 u x) → IfSome given (IsSignedIn (pos 1) (pos MOST_CONSOLES_AT_ONCE))
     → one ≡ option_map without_minus given → (one ≡ None → r ≡ None) → ((t : List ℕ) → one ≡ Some t → ReadsOne G t r)
     → (stay : Bool) (most : ℕ) → CountsConsoles stay None most → n ≡ unwrap_or r most → CountsConsoles stay given n
 counted E G None one r n only passed text none some stay most untold is = is ∙ ap (λ (o : Option ℕ). unwrap_or o most) (none text) ∙ untold
 counted E G (Some t) one r n only passed text none some stay most untold is =
-    let got = number_read E G 16 1024 t r only (omega arith) passed (some (without_minus t) text) in
+    let got = number_read E G 16 MOST_CONSOLES_AT_ONCE t r only (omega arith) passed (some (without_minus t) text) in
     let same : n ≡ got.0 = is ∙ ap (λ (o : Option ℕ). unwrap_or o most) got.1 in
     (rw same got.2.0, rw same got.2.1, same ∙ got.2.2)
 
 -- the seconds that a console may be silent, by the text of its option
 pub seconds_counted : (E : Type 0) (G : List ℕ → Result ℕ E → Type 0) (given one : Option (List ℕ)) (r : Option ℕ)
-    → ((u : List ℕ) (x : Result ℕ E) → G u x → ParsesUnsigned 32 10 u x) → IfSome given (IsSignedIn (pos 1) (pos 31536000))
+    → ((u : List ℕ) (x : Result ℕ E) → G u x → ParsesUnsigned 32 10 u x) → IfSome given (IsSignedIn (pos 1) (pos LONGEST_SILENCE))
     → one ≡ option_map without_minus given → (one ≡ None → r ≡ None) → ((t : List ℕ) → one ≡ Some t → ReadsOne G t r)
     → CountsSeconds given r
 seconds_counted E G None one r only passed text none some = none text
 seconds_counted E G (Some t) one r only passed text none some =
-    number_read E G 32 31536000 t r only (omega arith) passed (some (without_minus t) text)
+    number_read E G 32 LONGEST_SILENCE t r only (omega arith) passed (some (without_minus t) text)
 
 -- whether the flag is set, by the text of its option
 pub flag_read : (given one : Option (List ℕ)) (b : Bool) → IfSome given IsFlagText → one ≡ given → (one ≡ None → b ≡ false)

@@ -21,6 +21,7 @@ use Rattle.clap.specs.declared.error.kind.ErrorKind.{ErrorKind}
 use Rattle.clap.specs.declared.error.kind.ErrorKind.TheVariants as kind
 use Rattle.clap.proofs.ValueTestLemmas.{accepts-Accepts}
 use Rattle.std.proofs.lemmas.Slice.Eq.{bytes_eq-Decides}
+use Rattle.term.specs.declared.limits.TheConstants.{MOST_CONSOLES_AT_ONCE, LONGEST_SILENCE}
 use Rattle.arguments.specs.CommandLine.{program, refusals, serve_shape}
 use Rattle.arguments.specs.Reading.{Asks, AsksIn, HasArguments, HasOptions, IsFlagText, IsLooked, Refuses, RefusesIn, RefusesValues}
 use Rattle.arguments.specs.CommandLine.{Entered}
@@ -43,8 +44,8 @@ IsNumber most r text = (r.reading ≡ WithoutMinus) × IsSignedIn (pos 1) (pos m
 record ServeRow (r : Row) : Type 0 where
   text : Text
   is : r.values ≡ text ∷ []
-  number : bytes_eq r.id (codes "consoles") ≡ true → IsNumber 1024 r text
-  seconds : bytes_eq r.id (codes "idle") ≡ true → IsNumber 31536000 r text
+  number : bytes_eq r.id (codes "consoles") ≡ true → IsNumber MOST_CONSOLES_AT_ONCE r text
+  seconds : bytes_eq r.id (codes "idle") ≡ true → IsNumber LONGEST_SILENCE r text
   flag : bytes_eq r.id (codes "stay") ≡ true → (r.reading ≡ AsWritten) × IsFlagText text
 
 -- `serve`, as it is built
@@ -92,7 +93,7 @@ serve_fine = record {
           one_valued_fine ServeRow _ refl refl (λ v h. record {
             text = v;
             is = refl;
-            number = λ e. (refl, number_accepted 1024 v h);
+            number = λ e. (refl, number_accepted MOST_CONSOLES_AT_ONCE v h);
             seconds = λ e. cc;
             flag = λ e. cc;
           }),
@@ -111,7 +112,7 @@ serve_fine = record {
                   text = v;
                   is = refl;
                   number = λ e. cc;
-                  seconds = λ e. (refl, number_accepted 31536000 v h);
+                  seconds = λ e. (refl, number_accepted LONGEST_SILENCE v h);
                   flag = λ e. cc;
                 }),
                 (inl refl, tt),
@@ -197,12 +198,12 @@ wanted_value id rows all given = some_value (find (λ r. bytes_eq r.id id) rows)
 
 -- the rows of the two numbers
 numbered : (rows : List Row) → AllRows ServeRow rows → (r : Row) → find (λ x. bytes_eq x.id (codes "consoles")) rows ≡ Some r
-    → (text : Text) × (r.values ≡ text ∷ []) × IsNumber 1024 r text
+    → (text : Text) × (r.values ≡ text ∷ []) × IsNumber MOST_CONSOLES_AT_ONCE r text
 numbered rows all r e =
     let found = find_row ServeRow (codes "consoles") rows r all e in (found.0.text, found.0.is, found.0.number found.1)
 
 limited : (rows : List Row) → AllRows ServeRow rows → (r : Row) → find (λ x. bytes_eq x.id (codes "idle")) rows ≡ Some r
-    → (text : Text) × (r.values ≡ text ∷ []) × IsNumber 31536000 r text
+    → (text : Text) × (r.values ≡ text ∷ []) × IsNumber LONGEST_SILENCE r text
 limited rows all r e =
     let found = find_row ServeRow (codes "idle") rows r all e in (found.0.text, found.0.is, found.0.seconds found.1)
 
@@ -215,10 +216,10 @@ options_of words none =
     record {
       listen = wanted_value (codes "listen") rows level.0 both.0;
       nodes = wanted_value (codes "nodes") rows level.0 both.1;
-      consoles = number_value 1024 (find (λ r. bytes_eq r.id (codes "consoles")) rows) (numbered rows level.0);
-      digits = number_text 1024 (find (λ r. bytes_eq r.id (codes "consoles")) rows) (numbered rows level.0);
-      idle = number_value 31536000 (find (λ r. bytes_eq r.id (codes "idle")) rows) (limited rows level.0);
-      seconds = number_text 31536000 (find (λ r. bytes_eq r.id (codes "idle")) rows) (limited rows level.0);
+      consoles = number_value MOST_CONSOLES_AT_ONCE (find (λ r. bytes_eq r.id (codes "consoles")) rows) (numbered rows level.0);
+      digits = number_text MOST_CONSOLES_AT_ONCE (find (λ r. bytes_eq r.id (codes "consoles")) rows) (numbered rows level.0);
+      idle = number_value LONGEST_SILENCE (find (λ r. bytes_eq r.id (codes "idle")) rows) (limited rows level.0);
+      seconds = number_text LONGEST_SILENCE (find (λ r. bytes_eq r.id (codes "idle")) rows) (limited rows level.0);
       flag = flag_value (find (λ r. bytes_eq r.id (codes "stay")) rows) (λ r e. find_row ServeRow (codes "stay") rows r level.0 e);
       written = flag_text (find (λ r. bytes_eq r.id (codes "stay")) rows) (λ r e. find_row ServeRow (codes "stay") rows r level.0 e);
     }

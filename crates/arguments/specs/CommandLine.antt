@@ -1,5 +1,6 @@
 -- The command line of the program, and what its words ask for.
 use Rattle.std.specs.Prelude.{◌≡◌, ℕ, true, codes, List, [], ◌∷◌, ◌++◌, Option, Some, None, pos, option_map, option_and_then}
+use Rattle.term.specs.declared.limits.TheConstants.{MOST_CONSOLES_AT_ONCE, LONGEST_SILENCE}
 use Rattle.clap.specs.Words.{App, Kinds, Row, Rule, Shape, Text, fault_of, first_of, new_app, new_rule, subcommand_of, with_subcommand}
 use Rattle.clap.specs.Simple.{new_shape}
 use Rattle.clap.specs.declared.builder.action.ArgAction.TheVariants.{Set, SetTrue}
@@ -14,17 +15,17 @@ one_valued id = record (new_rule id) { long = Some id; action = Some Set; value_
 abbrev pub wanted : Text → Rule
 wanted id = record (one_valued id) { required = true }
 
--- the option for the number of consoles, which takes a number from 1 to 1,024
+-- the option for the number of consoles, which takes a number from 1 to the most at once
 abbrev pub consoles_rule : Rule
-consoles_rule = record (one_valued (codes "consoles")) { parser = Some (parser.Signed (pos 1) (pos 1024)) }
+consoles_rule = record (one_valued (codes "consoles")) { parser = Some (parser.Signed (pos 1) (pos MOST_CONSOLES_AT_ONCE)) }
 
 -- the flag of a server that stays
 abbrev pub stay_rule : Rule
 stay_rule = record (new_rule (codes "stay")) { long = Some (codes "stay"); action = Some SetTrue }
 
--- the option for the seconds that a console may be silent, which takes a number from 1 to 31,536,000
+-- the option for the seconds that a console may be silent, which takes a number from 1 to the most
 abbrev pub idle_rule : Rule
-idle_rule = record (one_valued (codes "idle")) { parser = Some (parser.Signed (pos 1) (pos 31536000)) }
+idle_rule = record (one_valued (codes "idle")) { parser = Some (parser.Signed (pos 1) (pos LONGEST_SILENCE)) }
 
 -- the options of `serve` that are for each server
 abbrev pub valued_rules : List Rule

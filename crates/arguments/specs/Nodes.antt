@@ -2,8 +2,10 @@
 use Rattle.std.specs.Prelude.{◌≡◌, ◌⊎◌, ◌+◌, ◌<◌, ◌≤◌, ℕ, Bool, true, false, List, [], length, Option, Some, None}
 use Rattle.std.specs.List.{list_any}
 use Rattle.term.specs.NodeLists.{SpellsNodes, RefusesNodes}
-use Rattle.term.specs.NodeSets.{most_nodes, set_of}
-use Rattle.term.specs.Spelling.{SpellsNodeName, RefusesText}
+use Rattle.term.specs.Nodes.{name_of}
+use Rattle.term.specs.NodeSets.{set_of}
+use Rattle.term.specs.declared.limits.TheConstants.{MOST_NODES}
+use Rattle.term.specs.Spelling.{SpellsNode, RefusesNode}
 use Rattle.term.specs.declared.faults.TextFault.{TextFault}
 use Rattle.arguments.specs.declared.faults.ArgFault.{ArgFault}
 use Rattle.arguments.specs.declared.faults.ArgFault.TheVariants.{Options, Words, Text, SameNode, TooManyNodes, NoSuchNode}
@@ -27,7 +29,7 @@ pub record PlacesNodes (nodes : List ℕ) (lone_list : Option (List ℕ)) (clust
   pub joined : SpellsNodes nodes cluster
   pub alone : SpellsLone lone_list lone
   pub apart : shares cluster lone ≡ false
-  pub fits : length cluster + length lone ≤ most_nodes
+  pub fits : length cluster + length lone ≤ MOST_NODES
 
 -- the two lists spell sets that share a node
 pub record SharesNode (nodes : List ℕ) (lone_list : Option (List ℕ)) : Type 0 where
@@ -44,7 +46,7 @@ pub record HasTooMany (nodes : List ℕ) (lone_list : Option (List ℕ)) : Type 
   pub joined : SpellsNodes nodes cluster
   pub alone : SpellsLone lone_list lone
   pub apart : shares cluster lone ≡ false
-  pub over : most_nodes < length cluster + length lone
+  pub over : MOST_NODES < length cluster + length lone
 
 -- the first list that spells no set is refused for the fault
 abbrev pub RefusesList : List ℕ → Option (List ℕ) → TextFault → Type 0
@@ -60,22 +62,22 @@ RefusesPlacing nodes lone SameNode = SharesNode nodes lone
 RefusesPlacing nodes lone TooManyNodes = HasTooMany nodes lone
 RefusesPlacing _ _ NoSuchNode = ⊥
 
--- the text spells a node, which is one of those that the list spells
+-- the text spells a node, whose name is one of those that the list spells
 pub record PlacesNode (text list : List ℕ) (node : ℕ) (world : List ℕ) : Type 0 where
-  pub named : SpellsNodeName text node
+  pub named : SpellsNode text node
   pub listed : SpellsNodes list world
-  pub known : set_of world node ≡ true
+  pub known : set_of world (name_of node) ≡ true
 
 -- the text spells a node, and the list spells others alone
 pub record NamesStranger (text list : List ℕ) : Type 0 where
   pub node : ℕ
   pub world : List ℕ
-  pub named : SpellsNodeName text node
+  pub named : SpellsNode text node
   pub listed : SpellsNodes list world
-  pub unknown : set_of world node ≡ false
+  pub unknown : set_of world (name_of node) ≡ false
 
--- the fault of a node and of a list: that of the first that spells none, else that the node isn't listed
+-- the fault of a node and of a list: that of the first that spells none, else that its name isn't listed
 abbrev pub RefusesOwn : List ℕ → List ℕ → ArgFault → Type 0
-RefusesOwn text list (Text fault) = RefusesText text fault ⊎ ((node : ℕ) × SpellsNodeName text node × RefusesNodes list fault)
+RefusesOwn text list (Text fault) = RefusesNode text fault ⊎ ((node : ℕ) × SpellsNode text node × RefusesNodes list fault)
 RefusesOwn text list NoSuchNode = NamesStranger text list
 RefusesOwn _ _ _ = ⊥

@@ -4,6 +4,7 @@ use Rattle.std.specs.Str.Parse.{digits_value, without_leading_plus}
 use Rattle.clap.specs.Words.{HasKind, IsSignedIn, Row, first_of, one_of, subcommand_of, without_minus, Text as Bytes}
 use Rattle.clap.specs.Values.{kind_of}
 use Rattle.clap.specs.declared.error.kind.ErrorKind.TheVariants.{OutOfMemory}
+use Rattle.term.specs.declared.limits.TheConstants.{CONSOLES, CONSOLES_AT_ONCE, MOST_CONSOLES_AT_ONCE, LONGEST_SILENCE}
 use Rattle.arguments.specs.CommandLine.{Entered, name_in, program, refusals, value_in}
 use Rattle.arguments.specs.Nodes.{PlacesNode, PlacesNodes, RefusesOwn, RefusesPlacing}
 use Rattle.arguments.specs.Together.{Clashes}
@@ -28,15 +29,16 @@ is_set (Some text) = bytes_eq text (codes "true")
 abbrev pub Counts : ℕ → Bytes → ℕ → Type 0
 Counts most digits n = (1 ≤ n) × (n ≤ most) × (n ≡ digits_value 10 (without_leading_plus digits))
 
--- how many consoles are taken, or served at once where it stays: the number that is given, from 1 to 1,024; and where none is, 8, or 64 at once
+-- how many consoles are taken, or served at once where it stays: the number that is given, from 1 to the most at once; and where none is, so
+-- many, or so many at once
 abbrev pub CountsConsoles : Bool → Option Bytes → ℕ → Type 0
-CountsConsoles stay None n = n ≡ (if stay then 64 else 8)
-CountsConsoles stay (Some digits) n = Counts 1024 digits n
+CountsConsoles stay None n = n ≡ (if stay then CONSOLES_AT_ONCE else CONSOLES)
+CountsConsoles stay (Some digits) n = Counts MOST_CONSOLES_AT_ONCE digits n
 
--- for how many seconds a console may be silent: the number that is given, from 1 to 31,536,000; and where none is, for ever
+-- for how many seconds a console may be silent: the number that is given, from 1 to the most; and where none is, for ever
 abbrev pub CountsSeconds : Option Bytes → Option ℕ → Type 0
 CountsSeconds None limit = limit ≡ None
-CountsSeconds (Some digits) limit = (seconds : ℕ) × (limit ≡ Some seconds) × Counts 31536000 digits seconds
+CountsSeconds (Some digits) limit = (seconds : ℕ) × (limit ≡ Some seconds) × Counts LONGEST_SILENCE digits seconds
 
 -- these values tell `serve` so
 pub record Tells (value : Values) (o : ServeOptions) : Type 0 where
@@ -82,9 +84,9 @@ IsFlagText text = (text ≡ codes "true") ⊎ (text ≡ codes "false")
 pub record HasOptions (rows : List Row) : Type 0 where
   pub listen : is_some (first_of (codes "listen") rows) ≡ true
   pub nodes : is_some (first_of (codes "nodes") rows) ≡ true
-  pub consoles : IfSome (first_of (codes "consoles") rows) (IsSignedIn (pos 1) (pos 1024))
+  pub consoles : IfSome (first_of (codes "consoles") rows) (IsSignedIn (pos 1) (pos MOST_CONSOLES_AT_ONCE))
   pub digits : one_of (codes "consoles") rows ≡ option_map without_minus (first_of (codes "consoles") rows)
-  pub idle : IfSome (first_of (codes "idle") rows) (IsSignedIn (pos 1) (pos 31536000))
+  pub idle : IfSome (first_of (codes "idle") rows) (IsSignedIn (pos 1) (pos LONGEST_SILENCE))
   pub seconds : one_of (codes "idle") rows ≡ option_map without_minus (first_of (codes "idle") rows)
   pub flag : IfSome (first_of (codes "stay") rows) IsFlagText
   pub written : one_of (codes "stay") rows ≡ first_of (codes "stay") rows

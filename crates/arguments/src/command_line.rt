@@ -6,6 +6,7 @@ ghost use Rattle.arguments.specs.CommandLine.{program, consoles_rule, idle_rule,
 
 use clap::{Arg, ArgAction, Command};
 use std::alloc::{AllocError, Global};
+use term::{LONGEST_SILENCE, MOST_CONSOLES_AT_ONCE};
 
 /// An option that takes one value, which help calls by this name.
 fn option<'a>(alloc: Global, id: &'a str, value: &'a str, help: &'a str) -> Arg<'a>
@@ -39,7 +40,7 @@ fn consoles_option<'a>(alloc: Global) -> Arg<'a>
         "N",
         "How many consoles are taken before the cluster closes, 1 to 64, as 16; 8 without this option. With --stay, how many are served at once, 1 to 1024; 64 without this option",
     )
-    .value_parser(clap::value_parser!(u16).range(1..=1024))
+    .value_parser(clap::value_parser!(u16).range(1..=i64::from(MOST_CONSOLES_AT_ONCE)))
 }
 
 /// The flag of a server that stays.
@@ -64,7 +65,7 @@ fn idle_option<'a>(alloc: Global) -> Arg<'a>
         "SECONDS",
         "With --stay: after how many seconds without a line a console ends, 1 to 31536000; never without this option",
     )
-    .value_parser(clap::value_parser!(u32).range(1..=31_536_000))
+    .value_parser(clap::value_parser!(u32).range(1..=i64::from(LONGEST_SILENCE)))
 }
 
 /// The subcommand `serve` with the options of each server.

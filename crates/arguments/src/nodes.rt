@@ -3,7 +3,7 @@ ghost use Rattle.std.specs.Prelude.{◌≡◌, MatchResult, option_map};
 ghost use Rattle.arguments.specs.Nodes.{PlacesNode, PlacesNodes, RefusesLone, RefusesOwn, RefusesPlacing, SpellsLone, shares};
 
 use crate::faults::ArgFault;
-use term::{MOST_NODES, NodeName, NodeNames, TextFault, parse_node_name, parse_nodes};
+use term::{MOST_NODES, Node, NodeNames, TextFault, parse_node, parse_nodes};
 
 /// Whether some node is in both sets.
 fn share_a_node(cluster: &NodeNames, lone: &NodeNames) -> bool
@@ -43,13 +43,14 @@ pub(crate) fn read_nodes(
     Ok((cluster, lone))
 }
 
-/// Reads the node that is to run, and the list of all nodes of its world, of which it is one. The node is looked at first.
-pub(crate) fn read_own(node: &str, nodes: &str) -> Result<(NodeName, NodeNames), ArgFault>
+/// Reads the node that is to run, of whatever creation, and the list of all names of its world, of which its own is one. The node is looked at
+/// first.
+pub(crate) fn read_own(node: &str, nodes: &str) -> Result<(Node, NodeNames), ArgFault>
     ensures { MatchResult result (λ own. PlacesNode node.now nodes.now own.0 own.1) (RefusesOwn node.now nodes.now) }
 {
-    let node = parse_node_name(node)?;
+    let node = parse_node(node)?;
     let world = parse_nodes(nodes)?;
-    if !world.contains(&node) {
+    if !world.contains(node.name()) {
         return Err(ArgFault::NoSuchNode);
     }
     Ok((node, world))

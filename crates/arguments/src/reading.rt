@@ -10,12 +10,7 @@ use crate::nodes::{read_nodes, read_own};
 use crate::task::{NodeOptions, ServeOptions, Task};
 use clap::ArgMatches;
 use std::alloc::{AllocError, Global};
-
-/// How many consoles are taken where the words don't tell.
-const CONSOLES: u16 = 8;
-
-/// How many consoles are served at once where a server stays and the words don't tell.
-const CONSOLES_AT_ONCE: u16 = 64;
+use term::{CONSOLES, CONSOLES_AT_ONCE};
 
 /// How many consoles are taken, or served at once where it stays, where the words don't tell.
 fn untold_consoles(stay: bool) -> u16
@@ -24,7 +19,7 @@ fn untold_consoles(stay: bool) -> u16
     if stay { CONSOLES_AT_ONCE } else { CONSOLES }
 }
 
-/// Reads the number of consoles, which clap has looked at before: it is one of 1 to 1,024 where it is given.
+/// Reads the number of consoles, which clap has looked at before: it is 1 or more, and not too many, where it is given.
 fn read_consoles(matches: &ArgMatches<'_>, stay: bool) -> u16
     requires { HasOptions (rows_of (found_of matches.now)) }
     ensures { CountsConsoles stay (first_of (codes "consoles") (rows_of (found_of matches.now))) result }

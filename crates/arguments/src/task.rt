@@ -3,13 +3,10 @@ ghost use Rattle.std.specs.Prelude.{option_map, string_bytes};
 ghost use Rattle.arguments.specs.Together.{Clashes, NamesSocket};
 
 use crate::faults::OptionFault;
-use term::{NodeName, NodeNames};
+use term::{MOST_CONSOLES, Node, NodeNames};
 
 /// What the address begins with where it is the path of a socket.
 const SOCKET: &str = "unix:";
-
-/// How many consoles a server takes that doesn't stay.
-const MOST_TAKEN: u16 = 64;
 
 /// What the program is asked for.
 #[derive(Debug, Drop)]
@@ -25,9 +22,9 @@ pub enum Task {
 /// What `node` is told.
 #[derive(Debug, Drop)]
 pub struct NodeOptions {
-    /// The node, which is one of the world.
-    pub node: NodeName,
-    /// All nodes of the world.
+    /// The node, whose name is one of the world's. It may be a later one of that name.
+    pub node: Node,
+    /// All names of the world.
     pub world: NodeNames,
 }
 
@@ -74,7 +71,7 @@ impl ServeOptions {
             Some(OptionFault::Idle)
         } else if over_socket {
             Some(OptionFault::Socket)
-        } else if self.consoles > MOST_TAKEN {
+        } else if self.consoles > MOST_CONSOLES {
             Some(OptionFault::Consoles)
         } else {
             None

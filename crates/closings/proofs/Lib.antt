@@ -7,4 +7,5 @@ pub mod Merged
 pub mod Onward
 mod Fitting
 pub mod Growing
+pub mod Plainly
 pub mod Vouching

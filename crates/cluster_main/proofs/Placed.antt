@@ -7,7 +7,8 @@ use Rattle.std.proofs.lemmas.Bool.{eq-eqb, le-ltb, or_parts, false≢true}
 use Rattle.std.proofs.lemmas.List.Folds.{list_any-append}
 use Rattle.std.proofs.lemmas.List.Splits.{length-slice_split}
 use Rattle.term.specs.NodeLists.{SpellsNodes, parts_of, comma}
-use Rattle.term.specs.NodeSets.{set_of, most_nodes}
+use Rattle.term.specs.NodeSets.{set_of}
+use Rattle.term.specs.declared.limits.TheConstants.{MOST_NODES}
 use Rattle.term.specs.Spelling.{SpellsNodeName}
 use Rattle.term.proofs.NodeLists.{rising-tail}
 use Rattle.term.proofs.NodeSets.{rises, set_of-fits}
@@ -43,11 +44,11 @@ apart-once (c ∷ cs) lone up ups apart =
     rw misses rest
 
 -- nodes that don't repeat, and aren't too many, start a cluster where there is one that is joined
-starts : (cs lone : List ℕ) → 0 < length cs → repeats (cs ++ lone) ≡ false → length cs + length lone ≤ most_nodes
+starts : (cs lone : List ℕ) → 0 < length cs → repeats (cs ++ lone) ≡ false → length cs + length lone ≤ MOST_NODES
     → start_refused cs lone ≡ None
 starts [] lone some once fits = absurd (omega (arith, some))
 starts (c ∷ cs) lone some once fits =
-    let few : nat_lt most_nodes (length ((c ∷ cs) ++ lone)) ≡ false =
+    let few : nat_lt MOST_NODES (length ((c ∷ cs) ++ lone)) ≡ false =
     le-ltb _ _ (omega (arith, length-append (c ∷ cs) lone, fits)) in
     rw once (rw few refl)
 

@@ -1,6 +1,7 @@
 -- The line that tells where the program listens, and why it doesn't.
 use Rattle.std.specs.Prelude.{ℕ, Bool, true, false, ◌≡◌, ◌≢◌, ◌⊎◌, ⊤, codes, nat_lt, List, ◌∷◌, ◌++◌, length, Option, Some, None}
 use Rattle.std.specs.Fmt.{decimal}
+use Rattle.term.specs.declared.limits.TheConstants.{LONGEST_PATH}
 use Rattle.arguments.specs.Together.{NamesSocket}
 use Rattle.server.specs.Printing.{ended}
 use Rattle.server.specs.declared.entry.Entry.{Entry}
@@ -42,10 +43,6 @@ pub record IsListeningLine (written line : List ℕ) : Type 0 where
   pub socket : (path : List ℕ) → NamesSocket written (Some path) → told ≡ written
   pub is : line ≡ listening_line told
 
--- the longest path of a socket
-abbrev pub longest_path : ℕ
-longest_path = 100
-
 -- the fault is that a path is longer
 abbrev pub is_too_long : ListenFault → Bool
 is_too_long TooLong = true
@@ -54,7 +51,7 @@ is_too_long _ = false
 -- nothing can listen at an address for this fault: the path of a socket is too long just where that is said
 abbrev pub RefusesAddress : List ℕ → ListenFault → Type 0
 RefusesAddress address fault =
-    (path : List ℕ) → NamesSocket address (Some path) → is_too_long fault ≡ nat_lt longest_path (length path)
+    (path : List ℕ) → NamesSocket address (Some path) → is_too_long fault ≡ nat_lt LONGEST_PATH (length path)
 
 -- what is told of the fault, where the system doesn't say it
 abbrev pub listen_words : ListenFault → Option (List ℕ)

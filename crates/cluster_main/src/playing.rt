@@ -1,6 +1,7 @@
 //! What the program does by the lines of standard input: for a script, and as a node.
 ghost use Rattle.std.specs.Prelude.{◌≡◌, true};
 ghost use Rattle.std.specs.Io.Buffered.{reader_remaining};
+ghost use Rattle.term.specs.Nodes.{name_of};
 ghost use Rattle.term.specs.NodeSets.{set_of};
 ghost use Rattle.cluster_main.specs.Answering.{PlaysScript, RunsNode, status_of as any_status};
 
@@ -9,7 +10,7 @@ use cluster_script::{ScriptFault, run_script};
 use node_port::run_node;
 use std::alloc::Global;
 use std::io::{BufReader, Read, Write};
-use term::{Node, NodeSet};
+use term::NodeSet;
 
 /// The status for lines that were done: 0 where they ended with no fault and, of a script, no refusal was printed, or, at a node, each
 /// line of a link was the next of it and each step had a stamp; and else 1.
@@ -49,7 +50,7 @@ pub(crate) fn run<R: Read, W: Write>(
     reader: &mut BufReader<R, Global>,
     writer: &mut W,
 ) -> u8
-    requires { set_of options.now.world options.now.node ≡ true }
+    requires { set_of options.now.world (name_of options.now.node) ≡ true }
     ensures { RunsNode options.now (record {
       input = reader_remaining R.remaining reader.old;
       rest = reader_remaining R.remaining reader.new;
@@ -59,9 +60,8 @@ pub(crate) fn run<R: Read, W: Write>(
 {
     // The names show that they are those of first nodes.
     let _count = options.world.len();
-    let node = Node::first(options.node.copy());
     let world = NodeSet::first_of(&options.world);
-    let ran = run_node(alloc, &node, &world, reader, writer);
+    let ran = run_node(alloc, &options.node, &world, reader, writer);
     if writer.flush().is_err() {
         return 1;
     }

@@ -1,6 +1,6 @@
 //! Sockets of the file system that only their owner may connect to.
 ghost use Rattle.std.specs.Prelude.{◌≡◌, ◌≤◌, IfErr, IfOk, IfSome, MatchResult, None, false, length, nat_lt, string_bytes};
-ghost use Rattle.cluster_main.specs.Listening.{is_too_long, listen_words, longest_path};
+ghost use Rattle.cluster_main.specs.Listening.{is_too_long, listen_words};
 ghost use Rattle.cluster_main.specs.declared.sockets.ListenFault.TheVariants.{System};
 
 use std::alloc::{AllocError, Global};
@@ -10,9 +10,7 @@ use std::net::Net;
 use std::os::unix::fs::{DirBuilderExt, FileTypeExt, MetadataExt, PermissionsExt};
 use std::os::unix::net::{UnixListener, UnixStream};
 use std::{fs, io};
-
-/// The longest path of a socket.
-const LONGEST_PATH: usize = 100;
+use term::LONGEST_PATH;
 
 /// Why nothing listens at an address.
 #[derive(Debug, Drop)]
@@ -134,7 +132,7 @@ pub(crate) fn bind_private<R: Files + Net>(
     alloc: Global,
     path: &str,
 ) -> Result<UnixListener, ListenFault>
-    ensures { MatchResult result (λ _. length path.now ≤ longest_path) (λ fault. is_too_long fault ≡ nat_lt longest_path (length path.now)) }
+    ensures { MatchResult result (λ _. length path.now ≤ LONGEST_PATH) (λ fault. is_too_long fault ≡ nat_lt LONGEST_PATH (length path.now)) }
 {
     if path.len() > LONGEST_PATH {
         return Err(ListenFault::TooLong);

@@ -3,6 +3,7 @@ use Rattle.std.proofs.Common.{ℕ, Bool, true, false, List, [], ◌∷◌, ◌++
 use Rattle.std.specs.Prelude.{MatchResult, is_some, if◌then◌else◌, ◌⊎◌}
 use Rattle.std.specs.Str.Lines.{lines}
 use Rattle.std.specs.Io.KnownBytes.{Appends, Keeps}
+use Rattle.term.specs.declared.limits.TheConstants.{MOST_LINES}
 use Rattle.cluster_world.specs.NodeNames.{NamedOpening}
 use Rattle.cluster_world.specs.NamedWorld.{NamedWorld}
 use Rattle.protocol_model.specs.NamedEvents.{Settle}
@@ -80,7 +81,7 @@ module _ (input rest a b : Option (List ℕ)) (kept : Keeps a b) (ls : List (Lis
 
 -- no world is opened
 pub Stopped-opening : (input rest a b : Option (List ℕ)) → Keeps a b → (f : StreamFault)
-    → StopsOpening input rest 1000000 f → Stopped input rest a b f
+    → StopsOpening input rest MOST_LINES f → Stopped input rest a b f
 Stopped-opening input rest a b k fault.TooManyLines g = (between input rest a b k g.0 g.1 g.2 g.3, g.4, g.5)
 Stopped-opening input rest a b k fault.Read g = (between input rest a b k g.0 g.1 g.2 g.3, g.4)
 Stopped-opening input rest a b k fault.Write g = (within input rest a b k g.0 g.1 g.2 g.3, g.4)
@@ -173,7 +174,7 @@ AllComeTo-played m ls asked first outcomes h c k = go (is_some (lone_line m)) as
     go false (a ∷ []) (x ∷ y ∷ xs) h c = absurd c.1
     go false (a ∷ b ∷ others) first h c = absurd h.1
 
-module _ (input rest : Option (List ℕ)) (most left : ℕ) (bound : most ≤ 1000000) (a b : Option (List ℕ))
+module _ (input rest : Option (List ℕ)) (most left : ℕ) (bound : most ≤ MOST_LINES) (a b : Option (List ℕ))
     (ls : List (List ℕ)) (l : LosesLines input rest ls) (e : most ≡ left + count_of_all ls) where
   -- there are headers alone
   pub Ran-ended : OpensHeaders (spoken ls) rest Ended → Keeps a b → Ran input rest a b true
@@ -284,7 +285,7 @@ module _ (input rest : Option (List ℕ)) (most left : ℕ) (bound : most ≤ 10
         wrote = (p.wrote.0, p.wrote.1, p.wrote.2, Appends-behind a x b p.wrote.0 kept p.wrote.3);
       }
 
-      Stopped-played : (f : StreamFault) → StopsPlaying first rest last left world x b f → most ≡ 1000000
+      Stopped-played : (f : StreamFault) → StopsPlaying first rest last left world x b f → most ≡ MOST_LINES
           → Stopped input last a b f
       Stopped-played fault.TooManyLines p n =
           let past : GoesPast input most (ls ++ p.0.taken) = GoesPast-behind input rest ls p.0.taken most left l e
@@ -294,7 +295,7 @@ module _ (input rest : Option (List ℕ)) (most left : ℕ) (bound : most ≤ 10
       Stopped-played fault.Write p n = (StoppedWithin-played p.0, p.1)
       Stopped-played fault.Memory p n = (StoppedWithin-played p.0, p.1)
 
-      pub Ran-played : (new : Held) (left2 : ℕ) (r : Result Bool StreamFault) → most ≡ 1000000
+      pub Ran-played : (new : Held) (left2 : ℕ) (r : Result Bool StreamFault) → most ≡ MOST_LINES
           → PlaysAll first rest last left left2 world new x b r
           → MatchResult r (Ran input last a b) (Stopped input last a b)
       Ran-played new left2 (Ok fine) n p = record {

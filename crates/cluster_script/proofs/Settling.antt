@@ -5,6 +5,7 @@ use Rattle.std.specs.List.{list_all}
 use Rattle.std.specs.Io.KnownBytes.{Appends}
 use Rattle.std.proofs.KnownBytes.{Appends-trans, Appends-nil}
 use Rattle.std.proofs.Math.Bool.{and-true}
+use Rattle.term.specs.declared.limits.TheConstants.{SETTLE_LIMIT}
 use Rattle.protocol_model.specs.Event.{Answer as AnyAnswer}
 use Rattle.protocol_model.specs.NamedEvents.{NamedOutput, Settle, Said}
 use Rattle.cluster_world.specs.NodeNames.{NamedOpening}
@@ -34,7 +35,7 @@ abbrev pub ends_at : NamedOpening → NamedWorld → NamedOutput
 ends_at o w = settled o (next_named o w)
 
 -- the limit, as the program has it
-pub settle_limit-is : settle_limit ≡ 100000
+pub settle_limit-is : settle_limit ≡ SETTLE_LIMIT
 unfolding settle_limit
 settle_limit-is = refl
 
@@ -71,7 +72,7 @@ module _ (o : NamedOpening) where
 pub record Settles (k : ℕ) (old now : Held) (a b : Option (List ℕ)) : Type 0 where
   pub most : ℕ
   pub given : List AnyAnswer
-  pub counted : most + k ≡ 100000
+  pub counted : most + k ≡ SETTLE_LIMIT
   pub opening : names_of now ≡ names_of old
   pub world : run_named (names_of old) (named old) (named_deliveries_left (names_of old) settle_limit (named old))
       ≡ run_named (names_of old) (named now) (named_deliveries_left (names_of old) most (named now))
@@ -104,7 +105,7 @@ answers_text-append (x ∷ xs) ys =
 -- no delivery was made yet
 pub Settles-start : (old : Held) (a : Option (List ℕ)) → Settles 0 old old a a
 Settles-start old a = record {
-  most = 100000;
+  most = SETTLE_LIMIT;
   given = [];
   counted = omega arith;
   opening = refl;
@@ -118,14 +119,14 @@ Settles-start old a = record {
 
 module _ (k : ℕ) (old now : Held) (a b : Option (List ℕ)) (S : Settles k old now a b) where
   -- there is one more to make
-  pub most-next : k < 100000 → (m : ℕ) × (S.most ≡ suc m)
+  pub most-next : k < SETTLE_LIMIT → (m : ℕ) × (S.most ≡ suc m)
   most-next l = go S.most refl
     where
       go : (n : ℕ) → S.most ≡ n → (m : ℕ) × (S.most ≡ suc m)
       go zero e = absurd (omega (arith, S.counted, e))
       go (suc m) e = (m, e)
 
-  module _ (e : NamedEvent) (h : next_named (names_of now) (named now) ≡ Some e) (l : k < 100000) where
+  module _ (e : NamedEvent) (h : next_named (names_of now) (named now) ≡ Some e) (l : k < SETTLE_LIMIT) where
     pub at_opening : next_named (names_of old) (named now) ≡ Some e
     at_opening = subst (λ (o : NamedOpening). next_named o (named now) ≡ Some e) S.opening h
 
@@ -226,7 +227,7 @@ settled-waits (Some p) h w = ap (settled (names_of h)) w
 
 module _ (k : ℕ) (old now : Held) (a b : Option (List ℕ)) (S : Settles k old now a b) where
   -- a fault while the answers of the next delivery were written
-  pub settle-stopped : (e : NamedEvent) → next_named (names_of now) (named now) ≡ Some e → k < 100000
+  pub settle-stopped : (e : NamedEvent) → next_named (names_of now) (named now) ≡ Some e → k < SETTLE_LIMIT
       → (c : Option (List ℕ))
       → AppendsPart b c (answers_text (named_answers (names_of now) (named now) e))
       → AppendsPart a c (shown_on old (Plays Settle))
@@ -291,7 +292,7 @@ module _ (k : ℕ) (old now : Held) (a b : Option (List ℕ)) (S : Settles k old
         fine-end false = refl
 
   -- memory is refused for the next delivery
-  module _ (e : NamedEvent) (h : next_named (names_of now) (named now) ≡ Some e) (l : k < 100000) where
+  module _ (e : NamedEvent) (h : next_named (names_of now) (named now) ≡ Some e) (l : k < SETTLE_LIMIT) where
     -- what was made and said so far
     shown-broken : shown (names_of old) (named old) (Breaks k) ≡ map Shows (map Said S.given) ++ Refuses Memory ∷ []
     shown-broken =
@@ -355,7 +356,7 @@ module _ (k : ℕ) (old now : Held) (a b : Option (List ℕ)) (S : Settles k old
       (subst (λ (o : NamedOpening). next_named o (named now) ≡ None) S.opening h)
 
   -- all deliveries were made
-  pub none_left : 100000 ≤ k → named_deliveries_left (names_of old) S.most (named now) ≡ []
+  pub none_left : SETTLE_LIMIT ≤ k → named_deliveries_left (names_of old) S.most (named now) ≡ []
   none_left l =
       let z : S.most ≡ 0 = omega (arith, S.counted) in
       ap (λ (n : ℕ). named_deliveries_left (names_of old) n (named now)) z

@@ -19,7 +19,8 @@ use Rattle.command_lines.specs.declared.faults.LineFault.TheVariants.{BadLine, T
 use Rattle.text_lines.specs.declared.faults.StreamFault.{StreamFault}
 use Rattle.text_lines.specs.declared.faults.StreamFault.TheVariants as stop
 use Rattle.command_lines.specs.declared.StartFault.{StartFault}
-use Rattle.text_lines.specs.Lines.{HasLines, spoken, count_of_all, most_lines, LosesLines, LosesInto, HasNoLine, HasNoFeed, IsWithinLine, GoesPast}
+use Rattle.text_lines.specs.Lines.{HasLines, spoken, count_of_all, LosesLines, LosesInto, HasNoLine, HasNoFeed, IsWithinLine, GoesPast}
+use Rattle.term.specs.declared.limits.TheConstants.{MOST_LINES, SETTLE_LIMIT}
 use Rattle.text_lines.specs.Words.{words}
 use Rattle.text_lines.specs.Writing.{AppendsPart}
 use Rattle.command_lines.specs.Commands.{unread, LineAsks}
@@ -30,7 +31,7 @@ use Rattle.cluster_world.specs.WorldsOfNames.{of_names}
 
 -- the most deliveries of one `settle`
 unfoldable pub settle_limit : ℕ
-settle_limit = 100000
+settle_limit = SETTLE_LIMIT
 
 -- what comes of a line that isn't empty: what it asks for is played; or it is refused, and nothing is played; or it is a
 -- `settle` to which memory is refused behind so many of its deliveries; or it is a `finish`, of which so many events are played,
@@ -236,7 +237,7 @@ pub record Ran (input rest : Option (List ℕ)) (old new : Option (List ℕ)) (f
   pub untaken : List (List ℕ)
   pub parts : all ≡ taken ++ untaken
   pub lost : LosesLines input rest taken
-  pub counted : count_of_all taken ≤ most_lines
+  pub counted : count_of_all taken ≤ MOST_LINES
   pub ended : (untaken ≡ []) ⊎ ((f : LineFault) × EndsRefused (spoken taken) f)
   pub wrote : Appends old new (shown_text out)
   pub fine_is : fine ≡ list_all is_fine out
@@ -276,7 +277,7 @@ pub record StoppedWithin (input rest old new : Option (List ℕ)) : Type 0 where
 -- A script of this input ended with a fault: with too many lines, where the next one takes the count past the most
 abbrev pub Stopped : Option (List ℕ) → Option (List ℕ) → Option (List ℕ) → Option (List ℕ) → StreamFault → Type 0
 Stopped input rest old new stop.TooManyLines = (s : StoppedBetween input rest old new) × IsWithinLine s.part
-    × GoesPast input most_lines s.first
+    × GoesPast input MOST_LINES s.first
 Stopped input rest old new stop.Read = (s : StoppedBetween input rest old new) × HasNoFeed s.part
 Stopped input rest old new stop.Write = (s : StoppedWithin input rest old new) × HasNoFeed s.part
 Stopped input rest old new stop.Memory = (s : StoppedWithin input rest old new) × IsWithinLine s.part

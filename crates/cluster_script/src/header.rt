@@ -2,7 +2,8 @@
 ghost use Rattle.std.specs.Prelude.{◌≡◌, ◌≤◌, MatchResult, is_some, map, option_map, List, ℕ, [], Ok};
 ghost use Rattle.std.specs.Io.KnownBytes.{Keeps};
 ghost use Rattle.std.specs.Io.Buffered.{reader_remaining};
-ghost use Rattle.text_lines.specs.Lines.{IsKept, most_lines};
+ghost use Rattle.text_lines.specs.Lines.{IsKept};
+ghost use Rattle.term.specs.declared.limits.TheConstants.{MOST_LINES};
 ghost use Rattle.text_lines.specs.Words.{words};
 ghost use Rattle.cluster_script.specs.Script.{made_of, texts_behind, lone_line};
 ghost use Rattle.cluster_script.specs.Headers.{ReadsNodes, ReadsHeader, Starts, StartsBeside, StartsCluster, OpensCluster, OpensLone, ReadsLone, ReadsHeaders, StopsOpening};
@@ -156,7 +157,7 @@ fn read_behind<R: Read, W: Write>(
     cluster: Cluster,
     left: &mut u32,
 ) -> Result<Headers, StreamFault>
-    requires most { left.old ≤ most_lines }
+    requires most { left.old ≤ MOST_LINES }
     requires opening { Starts cluster.nodes.items [] (Ok cluster.world) }
     ensures read { MatchResult result
         (ReadsLone cluster.nodes.items (reader_remaining R.remaining reader.old) (reader_remaining R.remaining reader.new)
@@ -179,7 +180,7 @@ pub(crate) fn read_headers<R: Read, W: Write>(
     writer: &mut W,
     left: &mut u32,
 ) -> Result<Headers, StreamFault>
-    requires { left.old ≤ most_lines }
+    requires { left.old ≤ MOST_LINES }
     ensures read { MatchResult result
         (ReadsHeaders (reader_remaining R.remaining reader.old) (reader_remaining R.remaining reader.new)
         left.old left.new)

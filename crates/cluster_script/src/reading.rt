@@ -2,7 +2,7 @@
 ghost use Rattle.std.specs.Prelude.{◌≤◌, MatchResult};
 ghost use Rattle.std.specs.Io.KnownBytes.{Keeps};
 ghost use Rattle.std.specs.Io.Buffered.{reader_remaining};
-ghost use Rattle.text_lines.specs.Lines.{most_lines};
+ghost use Rattle.term.specs.declared.limits.TheConstants.{MOST_LINES};
 ghost use Rattle.cluster_script.specs.Played.{ReadsOn, StopsReading};
 
 use std::alloc::Global;
@@ -18,7 +18,7 @@ pub(crate) fn next_line<R: Read, W: Write>(
     writer: &mut W,
     left: &mut u32,
 ) -> Result<Option<Line>, StreamFault>
-    requires { left.old ≤ most_lines }
+    requires { left.old ≤ MOST_LINES }
     ensures read { MatchResult result
         (ReadsOn (reader_remaining R.remaining reader.old) (reader_remaining R.remaining reader.new) left.old left.new)
         (StopsReading (reader_remaining R.remaining reader.old) (reader_remaining R.remaining reader.new) left.old) }

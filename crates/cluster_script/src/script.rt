@@ -6,7 +6,7 @@ ghost use Rattle.command_lines.specs.NodeEventsSeen.{answer_of as any_answer};
 ghost use Rattle.command_lines.specs.Events.{named_event, own_event_of};
 ghost use Rattle.term.specs.Nodes.{text_in};
 ghost use Rattle.command_lines.specs.Commands.{asked_by, line_in};
-ghost use Rattle.text_lines.specs.Lines.{IsKept, most_lines};
+ghost use Rattle.text_lines.specs.Lines.{IsKept};
 ghost use Rattle.command_lines.specs.Grammar.{Scripted, Finish};
 ghost use Rattle.command_lines.specs.Printing as print;
 ghost use Rattle.text_lines.specs.Writing.{Writes};
@@ -25,11 +25,8 @@ use command_lines::{
 };
 use std::alloc::Global;
 use std::io::{BufReader, Read, Write};
-use term::NodeName;
-use text_lines::{Line, MOST_LINES, StreamFault, WriteFault, write_text};
-
-/// The most deliveries of one `settle`.
-const SETTLE_LIMIT: u32 = 100_000;
+use term::{MOST_LINES, NodeName, SETTLE_LIMIT};
+use text_lines::{Line, StreamFault, WriteFault, write_text};
 
 /// Writes the lines of answers.
 fn write_answers<W: Write>(
@@ -249,7 +246,7 @@ fn play_lines<R: Read, W: Write>(
     world: &mut ScriptWorld,
     left: &mut u32,
 ) -> Result<bool, StreamFault>
-    requires { left.old ≤ most_lines }
+    requires { left.old ≤ MOST_LINES }
     ensures { PlaysAll [] (reader_remaining R.remaining reader.old) (reader_remaining R.remaining reader.new)
         left.old left.new world.old world.new (W.contents writer.old) (W.contents writer.new) result }
 {
@@ -272,7 +269,7 @@ fn play_all<R: Read, W: Write>(
     first: Option<Result<Task, LineFault>>,
     left: &mut u32,
 ) -> Result<bool, StreamFault>
-    requires { left.old ≤ most_lines }
+    requires { left.old ≤ MOST_LINES }
     ensures { PlaysBehind (asked_first first) (reader_remaining R.remaining reader.old) (reader_remaining R.remaining reader.new)
         left.old left.new world.old world.new (W.contents writer.old) (W.contents writer.new) result }
 {

@@ -27,7 +27,8 @@ use Rattle.getting_through.proofs.NamedRuns.{after_events-push}
 use Rattle.getting_through.proofs.Always.{always, restarts_start_anew}
 use Rattle.getting_through.proofs.Standing.{Sound}
 use Rattle.term.specs.Nodes.{text_in, name_of, creation_of, last_creation}
-use Rattle.term.specs.NodeSets.{IsNodeSet, most_nodes, set_of, with_older, succeeded}
+use Rattle.term.specs.NodeSets.{IsNodeSet, set_of, with_older, succeeded}
+use Rattle.term.specs.declared.limits.TheConstants.{MOST_NODES}
 use Rattle.term.proofs.ExactNodes.{rising-unique}
 use Rattle.term.proofs.NodePlaces.{place-Some}
 use Rattle.term.proofs.NodeSets.{set_of-with_node}
@@ -409,8 +410,8 @@ module _ (h : Held) (whole : IsWhole h) (went : HaveLeft (nodes_of h) h.links.de
         IsOlder : List ℕ → Core → Type 0
         IsOlder ns c = (with_older ns c.name ≡ true) × (set_of ns c.name ≡ false)
 
-        fits : length later ≤ most_nodes
-        fits = let l : length nodes ≤ most_nodes = whole.set.fits in omega (arith, long, l)
+        fits : length later ≤ MOST_NODES
+        fits = let l : length nodes ≤ MOST_NODES = whole.set.fits in omega (arith, long, l)
 
         still : (c : Core) → (with_older nodes c.name ≡ true) × (set_of nodes c.name ≡ false)
             → (with_older later c.name ≡ true) × (set_of later c.name ≡ false)

@@ -23,7 +23,8 @@ use Rattle.cluster_world.specs.Steps.{IsAdmitted}
 use Rattle.cluster_world.specs.Held.{Held, nodes_of}
 use Rattle.cluster_world.specs.Playing.{Keeps, Played, RefusedWith, WentThrough, WaitsOn, events_of, accepts_all, answers_to_all}
 use Rattle.world_events.specs.Refusals.{refusal_of, is_memory, out_of_memory}
-use Rattle.cluster_world.specs.Seats.{most_events, verdict_in, next_number, next_for, awaiting, until_answered, Waited, HasWaited, Called, SetsLock, IsUnplayed, Unanswered}
+use Rattle.cluster_world.specs.Seats.{verdict_in, next_number, next_for, awaiting, until_answered, Waited, HasWaited, Called, SetsLock, IsUnplayed, Unanswered}
+use Rattle.term.specs.declared.limits.TheConstants.{MOST_EVENTS}
 use Rattle.cluster_world.specs.Seen.{names_of, opening_of, seen, named, or_else, node_with}
 use Rattle.cluster_world.specs.Agreeing.{Agrees}
 use Rattle.world_events.proofs.Faults.{has_cause}
@@ -136,7 +137,7 @@ refusal_there (Step fault) e =
     let cause : (any : AnyRefusal) × (fault_of fault ≡ Some any) = has_cause fault e in
     (Plain cause.0, ap (option_map Plain) cause.1)
 
-module _ (a k : ℕ) (old mid new : Held) (i : ℕ) (e : WorldEvent) (within : i < most_events)
+module _ (a k : ℕ) (old mid new : Held) (i : ℕ) (e : WorldEvent) (within : i < MOST_EVENTS)
     (I : IsWaiting a k old mid i)
     (next : named_event e ≡ next_for (names_of mid) a (named mid)) where
   -- what is played in all, where this many events are left behind the next
@@ -148,7 +149,7 @@ module _ (a k : ℕ) (old mid new : Held) (i : ℕ) (e : WorldEvent) (within : i
       one_more = omega arith
 
   -- so it is where as many are played as may be
-  most_is : i + 1 + (most_events - (i + 1)) ≡ most_events
+  most_is : i + 1 + (MOST_EVENTS - (i + 1)) ≡ MOST_EVENTS
   most_is = omega (arith, within)
 
   next_is : next_for (names_of old) a (named mid) ≡ named_event e
@@ -156,7 +157,7 @@ module _ (a k : ℕ) (old mid new : Held) (i : ℕ) (e : WorldEvent) (within : i
 
   -- the next event is refused
   stops : (r : Refusal) → RefusedWith r e mid → is_memory r ≡ false → named new ≡ named mid
-      → Waited a k most_events old new None
+      → Waited a k MOST_EVENTS old new None
   stops r refused kept same = record {
     events = I.events;
     given = I.given;
@@ -168,7 +169,7 @@ module _ (a k : ℕ) (old mid new : Held) (i : ℕ) (e : WorldEvent) (within : i
   }
     where
       left : ℕ
-      left = most_events - (i + 1)
+      left = MOST_EVENTS - (i + 1)
 
       there : (x : NamedRefusal) × (refusal_of r ≡ Some x)
       there = refusal_there r kept
@@ -235,13 +236,13 @@ module _ (a k : ℕ) (old mid new : Held) (i : ℕ) (e : WorldEvent) (within : i
 
     -- the next event brings the answer
     pub is_answered : (granted : Bool) → verdict_in a k (map answer_of now) ≡ Some granted
-        → Waited a k most_events old new (Some granted)
+        → Waited a k MOST_EVENTS old new (Some granted)
     is_answered granted q = record {
       events = I.events ++ e ∷ [];
       given = I.given ++ now;
       played = went;
       are = sym (ap (λ (n : ℕ). awaiting (names_of old) a k n (named old)) (sym most_is)
-          ∙ rest_is (most_events - (i + 1)) (Some granted) q ∙ append-nil (events_of (I.events ++ e ∷ [])));
+          ∙ rest_is (MOST_EVENTS - (i + 1)) (Some granted) q ∙ append-nil (events_of (I.events ++ e ∷ [])));
       answered = verdict_is ∙ q;
     }
 
@@ -327,11 +328,11 @@ module _ (a : ℕ) (c : Call) (old mid : Held) (now : List Answer) (P : Played (
 
   -- its own step answers it
   answered_at_once : (granted : Bool) → verdict_in a k (map answer_of now) ≡ Some granted
-      → Called a c most_events old mid (Some granted)
+      → Called a c MOST_EVENTS old mid (Some granted)
   answered_at_once granted q =
-      called mid (calls ∷ []) now most_events (Some granted) begun
+      called mid (calls ∷ []) now MOST_EVENTS (Some granted) begun
       (went_on [] old old mid [] now calls (went_nowhere old []) (record { names = refl; cluster = refl }) P)
-      (sym (until most_events (Some granted) q)) q
+      (sym (until MOST_EVENTS (Some granted) q)) q
 
   -- or it waits
   answered_later : (new : Held) (most : ℕ) (v : Option Bool) → Keeps mid new
@@ -347,9 +348,9 @@ module _ (a : ℕ) (c : Call) (old mid : Held) (now : List Answer) (P : Played (
   -- so does its seat
   sets : (new : Held) (result : Result Bool SeatFault) → Keeps mid new
       → verdict_in a k (map answer_of now) ≡ None → HasWaited a k mid new result → SetsLock a c old new result
-  sets new (Ok granted) K q W = answered_later new most_events (Some granted) K q W
+  sets new (Ok granted) K q W = answered_later new MOST_EVENTS (Some granted) K q W
   sets new (Err NoMemory) K q W = absurd W
-  sets new (Err NoAnswer) K q W = answered_later new most_events None K q W
+  sets new (Err NoAnswer) K q W = answered_later new MOST_EVENTS None K q W
   sets new (Err (Refused r)) K q (refused, most, few, W) = (
     P.accepted ∙ ap refusal_of (sym refused),
     λ kept. absurd (no_memory (sym (ap is_memory refused) ∙ kept)),
@@ -409,7 +410,7 @@ module _ (a node b n p : ℕ) (c : Call) (old mid : Held) (now given : List Answ
       ∙ ap (λ (x : ℕ). verdict_in node x (map answer_of now)) number_here
       ∙ ap (λ (x : ℕ). verdict_in x (next_number x (seen old)) (map answer_of now)) node_is)
 
-  pub called_at_once : (granted : Bool) → v ≡ Some granted → Called a c most_events old mid (Some granted)
+  pub called_at_once : (granted : Bool) → v ≡ Some granted → Called a c MOST_EVENTS old mid (Some granted)
   called_at_once granted q = answered_at_once a c old mid now played granted (verdict_here ∙ q)
 
   pub called_later : (new : Held) (result : Result Bool SeatFault) → Keeps mid new → v ≡ None

@@ -29,10 +29,7 @@ use Rattle.cluster_world.specs.Agreeing.{Agrees}
 use Rattle.cluster_world.specs.Locks.{LocksBehind}
 use Rattle.cluster_world.specs.Leftovers.{LeavesNothing}
 use Rattle.cluster_world.specs.Counting.{Counts}
-
--- how many events are played at most while a call waits
-abbrev pub most_events : ℕ
-most_events = 100000
+use Rattle.term.specs.declared.limits.TheConstants.{MOST_EVENTS}
 
 -- whether a lock call is granted, where this is a reply to one
 abbrev pub verdict_of : AnyReply → Option Bool
@@ -96,10 +93,10 @@ pub record Waited (a k most : ℕ) (old new : Held) (verdict : Option Bool) : Ty
 
 -- what waiting comes to; where memory is refused, the events until then were played
 abbrev pub HasWaited : ℕ → ℕ → Held → Held → Result Bool SeatFault → Type 0
-HasWaited a k old new (Ok granted) = Waited a k most_events old new (Some granted)
-HasWaited a k old new (Err NoAnswer) = Waited a k most_events old new None
+HasWaited a k old new (Ok granted) = Waited a k MOST_EVENTS old new (Some granted)
+HasWaited a k old new (Err NoAnswer) = Waited a k MOST_EVENTS old new None
 HasWaited a k old new (Err (Refused r)) =
-    (r ≡ out_of_memory) × (most : ℕ) × (most ≤ most_events) × Waited a k most old new None
+    (r ≡ out_of_memory) × (most : ℕ) × (most ≤ MOST_EVENTS) × Waited a k most old new None
 HasWaited a k old new (Err NoMemory) = ⊥
 
 -- A call was accepted at node a and played, and then what it waits for, at most so many events. This is what it was
@@ -137,7 +134,7 @@ unmade (Some r) = Refused r
 -- stands
 abbrev pub HasBegun : ℕ → Call → Held → Held → Type 0
 HasBegun a c old new =
-    (named new ≡ named old) ⊎ ((most : ℕ) × (most ≤ most_events) × Called a c most old new None)
+    (named new ≡ named old) ⊎ ((most : ℕ) × (most ≤ MOST_EVENTS) × Called a c most old new None)
 
 -- an event wasn't played: the world refused it, which changes nothing, or memory was refused
 abbrev pub IsUnplayed : WorldEvent → Held → Held → SeatFault → Type 0
@@ -152,16 +149,16 @@ Unanswered a c old new (Refused r) =
     RefusedWith r (At a (Calls c)) old × (is_memory r ≡ false → new ≡ old)
     × (is_memory r ≡ true → HasBegun a c old new)
 Unanswered a c old new NoMemory = (new ≡ old) × (names_nodes c ≡ true) × RefusedWith out_of_memory (At a (Calls c)) old
-Unanswered a c old new NoAnswer = Called a c most_events old new None
+Unanswered a c old new NoAnswer = Called a c MOST_EVENTS old new None
 
 -- what a `set_lock` comes to
 abbrev pub SetsLock : ℕ → Call → Held → Held → Result Bool SeatFault → Type 0
-SetsLock a c old new (Ok granted) = Called a c most_events old new (Some granted)
+SetsLock a c old new (Ok granted) = Called a c MOST_EVENTS old new (Some granted)
 SetsLock a c old new (Err fault) = Unanswered a c old new fault
 
 -- what a `del_lock` comes to
 abbrev pub DeletesLock : ℕ → Call → Held → Held → Result Unit SeatFault → Type 0
-DeletesLock a c old new (Ok _) = (granted : Bool) × Called a c most_events old new (Some granted)
+DeletesLock a c old new (Ok _) = (granted : Bool) × Called a c MOST_EVENTS old new (Some granted)
 DeletesLock a c old new (Err fault) = Unanswered a c old new fault
 
 -- whose seat it is, and the replies to its calls so far

@@ -11,13 +11,10 @@ ghost use Rattle.cluster_world.specs.Seats.{verdict_to, verdict_in, unmade, IsUn
 use crate::world::World;
 use name_table::Names;
 use std::alloc::{AllocError, Global};
-use term::{LockId, Node, Pid};
+use term::{LockId, MOST_EVENTS, Node, Pid};
 use thiserror::Error;
 use transaction::{LockReply, LockSeat, Nodes, Retries};
 use world_events::{Answer, Call, Event, Refusal, Reply, StepFault, WorldEvent};
-
-/// How many events a seat plays at most while its call waits.
-const MOST_EVENTS: u32 = 100_000;
 
 /// Why a call at a seat got no reply.
 #[derive(Debug, PartialEq, Eq, Error, Drop)]

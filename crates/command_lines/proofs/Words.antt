@@ -1,12 +1,13 @@
 -- No line has seven words.
 use Rattle.std.proofs.Common.{List, ℕ, [], ◌∷◌, ◌<◌, ◌≤◌, ◌⊎◌, arith, length, map, refl, take, Result, Err, inl, inr}
 use denote.Bor.{Bor}
+use Rattle.term.specs.declared.limits.TheConstants.{MOST_WORDS}
 use Rattle.command_lines.specs.declared.faults.LineFault.{LineFault}
 use Rattle.command_lines.specs.declared.faults.LineFault.TheVariants.{BadLine}
 use Rattle.command_lines.specs.Grammar.{ScriptLine, WordsAsk, WordsNameNodes}
 
 -- so more than seven ask for what the first seven do
-pub first_words_ask : (words : List (List ℕ)) (r : Result ScriptLine LineFault) → WordsAsk (take 7 words) r → WordsAsk words r
+pub first_words_ask : (words : List (List ℕ)) (r : Result ScriptLine LineFault) → WordsAsk (take MOST_WORDS words) r → WordsAsk words r
 first_words_ask [] r h = h
 first_words_ask (a ∷ []) r h = h
 first_words_ask (a ∷ b ∷ []) r h = h
@@ -29,7 +30,7 @@ outside (a ∷ b ∷ c ∷ d ∷ e ∷ f ∷ []) h = absurd (elim h [ inl l ↦ 
 outside (a ∷ b ∷ c ∷ d ∷ e ∷ f ∷ g ∷ words) h = refl
 
 -- and name nodes where those do
-pub first_words_named : (words : List (List ℕ)) → WordsNameNodes (take 7 words) → WordsNameNodes words
+pub first_words_named : (words : List (List ℕ)) → WordsNameNodes (take MOST_WORDS words) → WordsNameNodes words
 first_words_named words n = record {
   holder = n.holder;
   resource = n.resource;

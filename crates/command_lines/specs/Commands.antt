@@ -7,7 +7,7 @@ use Rattle.world_events.specs.Events.{own_event_of, named_event}
 use Rattle.command_lines.specs.declared.faults.LineFault.{LineFault}
 use Rattle.command_lines.specs.declared.faults.LineFault.TheVariants.{LineTooLong, NotAscii}
 use Rattle.command_lines.specs.declared.grammar.Task.{Task}
-use Rattle.text_lines.specs.Lines.{longest_line}
+use Rattle.term.specs.declared.limits.TheConstants.{LONGEST_LINE}
 use Rattle.text_lines.specs.Words.{words}
 use Rattle.command_lines.specs.Grammar.{ScriptLine, Scripted, Finish, WordsAsk, WordsNameNodes}
 
@@ -17,7 +17,7 @@ is_ascii line = list_all (λ b. nat_lt b 128) line
 
 -- why a line is refused before its words are looked at
 abbrev pub unread : List ℕ → Option LineFault
-unread line = if nat_lt longest_line (length line) then Some LineTooLong else (if is_ascii line then None else Some NotAscii)
+unread line = if nat_lt LONGEST_LINE (length line) then Some LineTooLong else (if is_ascii line then None else Some NotAscii)
 
 -- what a line asks for that can be read, or why it is refused
 abbrev pub AsksUnless : Option LineFault → List ℕ → Result ScriptLine LineFault → Type 0

@@ -6,7 +6,8 @@ use Rattle.node_seats.specs.declared.fault.SeatFault.{SeatFault}
 use Rattle.text_lines.specs.declared.faults.StreamFault.{StreamFault}
 use Rattle.console.specs.Commands.{LineSays}
 use Rattle.console.specs.Consoles.{Answering, EndsBy, Exits, HeedsSpawnLink, MayAnswer, MaySpawnLinked, SpawnsLinked, Stands, Stops, Talk, TalkStops, TalksUntil, talk}
-use Rattle.console.specs.Links.{most_links, own_text}
+use Rattle.console.specs.Links.{own_text}
+use Rattle.term.specs.declared.limits.TheConstants.{MOST_LINKS}
 use Rattle.console.specs.Outcomes.{outcome_text}
 use Rattle.console.specs.declared.ends.ConsoleEnd.{ConsoleEnd}
 use Rattle.console.specs.declared.orders.Order.TheVariants.{Exit}
@@ -21,7 +22,7 @@ module _ {S : Type 0} (answers : Answering S) where
 
   -- the line of an answer is printed, or there is no memory for it
   pub spawn_said : {A F : Type 0} (bytes_of : A → List ℕ) (s t : Talk S) (outcome : Result Reply SeatFault) (r : Result A F)
-      → length s.links < most_links → SpawnsLinked answers s outcome t → IfOk r (λ line. bytes_of line ≡ outcome_text outcome)
+      → length s.links < MOST_LINKS → SpawnsLinked answers s outcome t → IfOk r (λ line. bytes_of line ≡ outcome_text outcome)
       → MatchResult r (λ line. HeedsSpawnLink answers s (bytes_of line) t) (λ _. MaySpawnLinked answers s t)
   spawn_said bytes_of s t outcome (Ok line) few spawns says = inl (few, outcome, spawns, says)
   spawn_said bytes_of s t outcome (Err _) few spawns says = inr (outcome_text outcome, inl (few, outcome, spawns, refl))

@@ -1,5 +1,6 @@
 -- What the words of a line say, by its first seven.
 use Rattle.std.proofs.Common.{ℕ, Bool, true, false, ◌≡◌, List, [], ◌∷◌, take, Option, Some, None, MatchOption, Result, Ok, Err, ◌&&◌, refl, sym, subst, ap, ◌∙◌, inl, inr}
+use Rattle.term.specs.declared.limits.TheConstants.{MOST_WORDS}
 use Rattle.command_lines.specs.declared.faults.LineFault.{LineFault}
 use Rattle.text_lines.specs.Words.{words as words_in}
 use Rattle.console.specs.Commands.{AsksFor, AsksForSome, AsksServer, Inquires, inquires, SaysBy, SaysOf, TextSays, WordsSay, behind_word, describes, is_lock_word, meant, meant_by, names_with, second}
@@ -43,7 +44,7 @@ module _ (a b c d e f g h : List ℕ) (words : List (List ℕ)) where
 
 -- as they are meant
 pub first_words_say : (stays : Bool) (own : Option (List ℕ)) (words : List (List ℕ)) (r : Result Command LineFault)
-    → WordsSay stays (meant own (take 7 words)) r → WordsSay stays (meant own words) r
+    → WordsSay stays (meant own (take MOST_WORDS words)) r → WordsSay stays (meant own words) r
 first_words_say stays own [] r says = says
 first_words_say stays own (a ∷ []) r says = says
 first_words_say stays own (a ∷ b ∷ []) r says = says
@@ -55,20 +56,20 @@ first_words_say stays own (a ∷ b ∷ c ∷ d ∷ e ∷ f ∷ g ∷ []) r says 
 first_words_say stays own (a ∷ b ∷ c ∷ d ∷ e ∷ f ∷ g ∷ h ∷ words) r says = say_more a _ _ d e f g h words stays r says
 
 -- whether words say something of a process, and of which, shows in the first seven
-describes_first : (words : List (List ℕ)) → describes (take 7 words) ≡ describes words
+describes_first : (words : List (List ℕ)) → describes (take MOST_WORDS words) ≡ describes words
 describes_first [] = refl
 describes_first (a ∷ []) = refl
 describes_first (a ∷ b ∷ []) = refl
 describes_first (a ∷ b ∷ c ∷ words) = refl
 
-second_first : (words : List (List ℕ)) → second (take 7 words) ≡ second words
+second_first : (words : List (List ℕ)) → second (take MOST_WORDS words) ≡ second words
 second_first [] = refl
 second_first (a ∷ []) = refl
 second_first (a ∷ b ∷ words) = refl
 
 -- a line says what it is read as that says something of a process
 pub text_describes : (stays : Bool) (own : Option (List ℕ)) (line : List ℕ) (first : List (List ℕ)) (process meaning said : List ℕ)
-    (r : Result Command LineFault) → first ≡ take 7 (words_in line) → (stays && describes first) ≡ true → process ≡ second first
+    (r : Result Command LineFault) → first ≡ take MOST_WORDS (words_in line) → (stays && describes first) ≡ true → process ≡ second first
     → meaning ≡ meant_by own true process → said ≡ behind_word (behind_word line) → SaysOf meaning said r → TextSays stays own line r
 text_describes stays own line first process meaning said r is so at means behind says =
     subst (λ (b : Bool). SaysBy b stays own line r) (sym all)
@@ -83,7 +84,7 @@ text_describes stays own line first process meaning said r is so at means behind
 
 -- and so does one that says nothing of one
 pub text_says : (stays : Bool) (own : Option (List ℕ)) (line : List ℕ) (first : List (List ℕ)) (r : Result Command LineFault)
-    → first ≡ take 7 (words_in line) → (stays && describes first) ≡ false → WordsSay stays (meant own (words_in line)) r
+    → first ≡ take MOST_WORDS (words_in line) → (stays && describes first) ≡ false → WordsSay stays (meant own (words_in line)) r
     → TextSays stays own line r
 text_says stays own line first r is so says = subst (λ (b : Bool). SaysBy b stays own line r) (sym all) says
   where

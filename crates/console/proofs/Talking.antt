@@ -8,7 +8,8 @@ use Rattle.std.specs.Io.KnownBytes.{Appends, Keeps}
 use Rattle.std.proofs.KnownBytes.{Appends-nil, Appends-trans, Appends-kept}
 use Rattle.text_lines.specs.declared.faults.StreamFault.{StreamFault}
 use Rattle.text_lines.specs.declared.faults.StreamFault.TheVariants.{Read, Write, TooManyLines, Memory}
-use Rattle.text_lines.specs.Lines.{LosesLines, LosesInto, LosesWithinLine, HasNoLine, StopsAtLine, GoesPast, most_lines, count_of, count_of_all}
+use Rattle.text_lines.specs.Lines.{LosesLines, LosesInto, LosesWithinLine, HasNoLine, StopsAtLine, GoesPast, count_of, count_of_all}
+use Rattle.term.specs.declared.limits.TheConstants.{MOST_LINES}
 use Rattle.text_lines.specs.Writing.{AppendsPart}
 use Rattle.text_lines.proofs.Known.{LosesLines-nil, LosesLines-trans, LosesLines-more, LosesInto-whole, LosesInto-behind, MayEndIn-none, count_of_all-append}
 use Rattle.text_lines.proofs.Written.{AppendsPart-behind}
@@ -31,12 +32,12 @@ above a b n h = go (nat_lt a n) refl
 
 -- of so many lines some were read, and those behind them count for too many, or one of them does
 too_far : (a b : Option (List ℕ)) (ls : List (List ℕ)) (most left : ℕ) → LosesLines a b ls → most ≡ left + count_of_all ls
-    → GoesPast b (min left most_lines) [] → GoesTooFar a most ls
+    → GoesPast b (min left MOST_LINES) [] → GoesTooFar a most ls
 too_far a b ls most left t e g = (
   g.0,
   LosesLines-more a b ls (g.0 ∷ []) t g.1,
   omega (arith, e),
-  elim (above left most_lines (count_of_all (g.0 ∷ [])) g.3) [
+  elim (above left MOST_LINES (count_of_all (g.0 ∷ [])) g.3) [
     | inl h ↦ inl (omega (arith, e, h, count_of_all-append ls (g.0 ∷ [])))
     | inr h ↦ inr (omega (arith, h))
   ],
@@ -93,7 +94,7 @@ module _ {S : Type 0} (answers : Answering S) (stands : Stands S) (stays : Bool)
       }
 
     -- the next line isn't read
-    pub TalkStops-reading : (f : StreamFault) → StopsAtLine mid rest (min left most_lines) f → TalkStops answers stands stays most input rest old new s t f
+    pub TalkStops-reading : (f : StreamFault) → StopsAtLine mid rest (min left MOST_LINES) f → TalkStops answers stands stays most input rest old new s t f
     TalkStops-reading Read g = (so_far g.0 (mid, LosesLines-nil mid, g.1), g.2)
     TalkStops-reading TooManyLines g = (
       so_far g.0 (mid, LosesLines-nil mid, g.1),

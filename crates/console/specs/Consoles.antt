@@ -12,14 +12,15 @@ use Rattle.command_lines.specs.declared.faults.LineFault.{LineFault}
 use Rattle.command_lines.specs.Printing.{error_line, word_of}
 use Rattle.text_lines.specs.declared.faults.StreamFault.{StreamFault}
 use Rattle.text_lines.specs.declared.faults.StreamFault.TheVariants.{Read, Write, TooManyLines, Memory}
-use Rattle.text_lines.specs.Lines.{BeginsWithLines, LosesLines, LosesInto, HasNoLine, HasNoFeed, IsWithinLine, count_of, count_of_all, most_lines}
+use Rattle.text_lines.specs.Lines.{BeginsWithLines, LosesLines, LosesInto, HasNoLine, HasNoFeed, IsWithinLine, count_of, count_of_all}
+use Rattle.term.specs.declared.limits.TheConstants.{MOST_LINES, MOST_LINKS}
 use Rattle.text_lines.specs.Writing.{AppendsPart, Growth}
 use Rattle.console.specs.Chosen.{chosen_text}
 use Rattle.console.specs.Commands.{LineSays}
 use Rattle.console.specs.Fences.{fence_outcome}
 use Rattle.console.specs.Greetings.{okay}
 use Rattle.console.specs.Help.{help_line}
-use Rattle.console.specs.Links.{left_by, linked_by, may_wait, most_links, own_text}
+use Rattle.console.specs.Links.{left_by, linked_by, may_wait, own_text}
 use Rattle.console.specs.Outcomes.{outcome_text}
 use Rattle.console.specs.declared.ends.ConsoleEnd.{ConsoleEnd}
 use Rattle.console.specs.declared.ends.ConsoleEnd.TheVariants as by
@@ -55,15 +56,11 @@ module _ {S : Type 0} where
   abbrev pub begun : S → Talk S
   begun s = talk s []
 
--- how many lines a console of a server that stays may have: more than come
-abbrev pub most_staying : ℕ
-most_staying = 18446744073709551615
-
 -- these first lines count for no more than the most; with the next one they count for more, or that one does for more than a
 -- reader's lines may
 abbrev pub GoesTooFar : Option (List ℕ) → ℕ → List (List ℕ) → Type 0
 GoesTooFar input most ls = (line : List ℕ) × BeginsWithLines input (ls ++ line ∷ []) × (count_of_all ls ≤ most)
-    × ((most < count_of_all (ls ++ line ∷ [])) ⊎ (most_lines < count_of line))
+    × ((most < count_of_all (ls ++ line ∷ [])) ⊎ (MOST_LINES < count_of line))
 
 module _ {S : Type 0} (answers : Answering S) where
   -- each of these processes was asked to exit, once, in their order, whatever was answered
@@ -84,8 +81,8 @@ module _ {S : Type 0} (answers : Answering S) where
   -- so where there is room for one more, and this is printed; else nothing is asked
   abbrev pub HeedsSpawnLink : Talk S → List ℕ → Talk S → Type 0
   HeedsSpawnLink s text t =
-      ((length s.links < most_links) × (r : Result Reply SeatFault) × SpawnsLinked s r t × (text ≡ outcome_text r))
-      ⊎ ((most_links ≤ length s.links) × (t ≡ s) × (text ≡ error_line (codes "too_many_links")))
+      ((length s.links < MOST_LINKS) × (r : Result Reply SeatFault) × SpawnsLinked s r t × (text ≡ outcome_text r))
+      ⊎ ((MOST_LINKS ≤ length s.links) × (t ≡ s) × (text ≡ error_line (codes "too_many_links")))
 
   -- it was answered so, or nothing was asked
   abbrev pub MaySpawnLinked : Talk S → Talk S → Type 0

@@ -10,7 +10,8 @@ use Rattle.command_lines.specs.Commands.{unread}
 use Rattle.command_lines.specs.Printing.{ended, error_line}
 use Rattle.text_lines.specs.declared.faults.StreamFault.{StreamFault}
 use Rattle.text_lines.specs.declared.faults.StreamFault.TheVariants.{Write, Memory}
-use Rattle.text_lines.specs.Lines.{LosesLines, HasNoLine, StopsAtLine, most_lines}
+use Rattle.text_lines.specs.Lines.{LosesLines, HasNoLine, StopsAtLine}
+use Rattle.term.specs.declared.limits.TheConstants.{MOST_LINES}
 use Rattle.text_lines.specs.Words.{words}
 use Rattle.text_lines.specs.Writing.{AppendsPart}
 use Rattle.console.specs.Faults.{greet_word}
@@ -116,7 +117,7 @@ Greets cookie nodes input rest old new found =
 
 -- the first line wasn't read, and nothing was written
 abbrev pub StopsFirst : Option (List ℕ) → Option (List ℕ) → Option (List ℕ) → Option (List ℕ) → StreamFault → Type 0
-StopsFirst input rest old new f = StopsAtLine input rest most_lines f × Keeps old new
+StopsFirst input rest old new f = StopsAtLine input rest MOST_LINES f × Keeps old new
 
 -- it was read, and a part of its answer was written
 pub record CutsFirst (cookie : Option (List ℕ)) (nodes : List ℕ) (input rest old new : Option (List ℕ)) (f : StreamFault) : Type 0 where

@@ -12,10 +12,6 @@ use Rattle.console.specs.declared.links.Links.{Links}
 use Rattle.console.specs.declared.orders.Order.{Order}
 use Rattle.console.specs.declared.orders.Order.TheVariants.{Call, Exit, Wait}
 
--- how many a console may have
-abbrev pub most_links : ℕ
-most_links = 1024
-
 -- the processes, in the order in which they were linked
 abbrev pub linked_in : Links → List Process
 linked_in links = links.processes.items

@@ -16,8 +16,8 @@ use crate::orders::{Command, Inquiry, Order};
 use arrayvec::ArrayVec;
 use command_lines::{Call, Event, LineFault, Pair, Task, WorldEvent, ran_out, read_words, text_of};
 use std::alloc::{AllocError, Global};
-use term::{Name, Pid, Rule, TextFault, parse_name, parse_node, parse_pid, parse_rule};
-use text_lines::{Line, MOST_WORDS, first_words};
+use term::{MOST_WORDS, Name, Pid, Rule, TextFault, parse_name, parse_node, parse_pid, parse_rule};
+use text_lines::{Line, first_words};
 
 /// The values of two texts, or the fault of the first that spells none.
 pub(crate) fn name_and_pid(name: &str, pid: &str) -> Result<(Name, Pid), TextFault>
@@ -340,7 +340,7 @@ fn spell_own<'a>(words: &mut [&'a str], own: Option<&'a str>)
 
 /// The first words of a text, as they are meant in a console with this process of its own.
 fn meant_words<'a>(text: &'a str, own: Option<&'a str>) -> ArrayVec<&'a str, MOST_WORDS>
-    ensures { map (λ word. word.now) result.items ≡ meant (option_map (λ text. text.now) own.entry) (take 7 (words_in text.now)) }
+    ensures { map (λ word. word.now) result.items ≡ meant (option_map (λ text. text.now) own.entry) (take MOST_WORDS (words_in text.now)) }
 {
     let mut words = first_words(text);
     spell_own(&mut words, own);

@@ -5,17 +5,12 @@ ghost use Rattle.console.specs.Cookies.{IsCookie, is_printable as is_printable_b
 
 use arrayvec::ArrayString;
 use std::marker::Model;
-
-/// The fewest bytes of a cookie.
-const SHORTEST: usize = 16;
-
-/// The most bytes of a cookie.
-const LONGEST: usize = 255;
+use term::{LONGEST_COOKIE, SHORTEST_COOKIE};
 
 /// What a client must show before it is attached: 16 to 255 printable bytes of ASCII, without a space.
 #[derive(Drop)]
 pub struct Cookie {
-    text: ArrayString<LONGEST>,
+    text: ArrayString<LONGEST_COOKIE>,
 }
 
 impl Model for Cookie {
@@ -60,7 +55,7 @@ impl Cookie {
     pub fn new(text: &str) -> Option<Cookie>
         ensures { MatchOption result (IsCookie text.now → ⊥) (λ cookie. IsCookie text.now × (cookie ≡ text.now)) }
     {
-        if text.len() < SHORTEST || !all_printable(text) {
+        if text.len() < SHORTEST_COOKIE || !all_printable(text) {
             return None;
         }
         let text = ArrayString::from(text).ok()?;

@@ -2,15 +2,16 @@
 ghost use Rattle.std.specs.Prelude.{◌≡◌, MatchResult, min};
 ghost use Rattle.std.specs.Io.Buffered.{reader_remaining};
 ghost use Rattle.std.specs.Io.KnownBytes.{Keeps};
-ghost use Rattle.text_lines.specs.Lines.{StopsAtLine, TakesLine, most_lines};
+ghost use Rattle.text_lines.specs.Lines.{StopsAtLine, TakesLine};
 
 use std::alloc::Global;
 use std::io::{BufReader, Read, Write};
-use text_lines::{Line, MOST_LINES, StreamFault, read_line};
+use term::MOST_LINES;
+use text_lines::{Line, StreamFault, read_line};
 
 /// For how many lines the next one may count: for no more than those that are left, nor for more than a reader's lines may.
 fn most_of_next(left: u64) -> u32
-    ensures { result ≡ min left most_lines }
+    ensures { result ≡ min left MOST_LINES }
 {
     left.min(u64::from(MOST_LINES)) as u32
 }
@@ -26,7 +27,7 @@ pub(crate) fn next_line<R: Read, W: Write>(
     ensures read { MatchResult result
         (TakesLine (reader_remaining R.remaining reader.old) (reader_remaining R.remaining reader.new)
         left.old left.new)
-        (StopsAtLine (reader_remaining R.remaining reader.old) (reader_remaining R.remaining reader.new) (min left.old most_lines)) }
+        (StopsAtLine (reader_remaining R.remaining reader.old) (reader_remaining R.remaining reader.new) (min left.old MOST_LINES)) }
     ensures kept { Keeps (W.contents writer.old) (W.contents writer.new) }
 {
     let most = most_of_next(*left);

@@ -17,8 +17,8 @@ use std::alloc::{AllocError, Global};
 use std::io::{BufReader, Read, Write};
 use std::thread;
 use std::time::{Clock, Duration};
-use term::{Node, NodeName, NodeSet, parse_node_name};
-use text_lines::{Line, MOST_LINES, StreamFault, WriteFault, first_words, read_line, tell};
+use term::{MOST_LINES, Node, NodeName, NodeSet, parse_node_name};
+use text_lines::{Line, StreamFault, WriteFault, first_words, read_line, tell};
 
 /// For how many seconds who doesn't show the cookie waits for the answer.
 const DELAY: u64 = 1;

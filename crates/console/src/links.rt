@@ -1,16 +1,13 @@
 //! The processes that are linked to a console.
 ghost use Rattle.std.specs.Prelude.{◌≡◌, ◌<◌, ◌≤◌, ◌++◌, [], true, length, string_bytes, IfOk, MatchBool, OnOk};
 ghost use Rattle.std.specs.Option.{option_map};
-ghost use Rattle.console.specs.Links.{has_room, linked_by, linked_in, may_wait, most_links, own_text, without};
+ghost use Rattle.console.specs.Links.{has_room, linked_by, linked_in, may_wait, own_text, without};
 
 use crate::orders::Order;
 use command_lines::{Call, Reply};
 use node_seats::SeatFault;
 use std::alloc::{AllocError, Global};
-use term::Pid;
-
-/// How many processes may be linked to a console.
-const MOST_LINKS: usize = 1024;
+use term::{MOST_LINKS, Pid};
 
 /// The processes that are linked to a console, in the order in which they were. They exit when it ends.
 #[derive(Drop)]
@@ -47,7 +44,7 @@ impl Links {
 
     /// Whether there are as many as there may be.
     pub(crate) fn is_full(&self) -> bool
-        ensures { MatchBool result (most_links ≤ length (linked_in self.now)) (length (linked_in self.now) < most_links) }
+        ensures { MatchBool result (MOST_LINKS ≤ length (linked_in self.now)) (length (linked_in self.now) < MOST_LINKS) }
     {
         self.processes.len() >= MOST_LINKS
     }

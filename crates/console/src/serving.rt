@@ -1,7 +1,6 @@
 //! Consoles at seats.
 ghost use Rattle.std.specs.Prelude.{false, MatchResult};
 ghost use Rattle.std.specs.Io.Buffered.{reader_remaining};
-ghost use Rattle.text_lines.specs.Lines.{most_lines};
 ghost use Rattle.console.specs.Consoles.{Serves, Stops};
 ghost use Rattle.console.specs.Seats.{SeatAnswers, SeatGives, SeatStands, IsTranscript};
 ghost use Rattle.node_seats.specs.Seats.{Sitting};
@@ -19,8 +18,8 @@ use std::alloc::Global;
 use std::io::{BufReader, Read, Write};
 use std::sync::Wait;
 use std::time::Clock;
-use term::{Name, Node, Pid};
-use text_lines::{MOST_LINES, StreamFault};
+use term::{MOST_LINES, Name, Node, Pid};
+use text_lines::StreamFault;
 
 /// Looks a name up from a seat.
 fn look_up<T: Notes>(seat: &mut Seat<T>, name: &Name) -> Result<Reply, SeatFault>
@@ -112,10 +111,10 @@ pub fn serve<R: Read, W: Write, H: Wait + Clock>(
 ) -> Result<Transcript, (StreamFault, Transcript)>
     ensures { MatchResult result
         (λ transcript. (t : Sitting) × IsTranscript t transcript
-        × Serves SeatAnswers SeatStands false most_lines (reader_remaining R.remaining reader.old) (reader_remaining R.remaining reader.new)
+        × Serves SeatAnswers SeatStands false MOST_LINES (reader_remaining R.remaining reader.old) (reader_remaining R.remaining reader.new)
         (W.contents writer.old) (W.contents writer.new) seat t)
         (λ ended. (t : Sitting) × IsTranscript t ended.1
-        × Stops SeatAnswers SeatStands false most_lines (reader_remaining R.remaining reader.old) (reader_remaining R.remaining reader.new)
+        × Stops SeatAnswers SeatStands false MOST_LINES (reader_remaining R.remaining reader.old) (reader_remaining R.remaining reader.new)
         (W.contents writer.old) (W.contents writer.new) seat t ended.0) }
 {
     let most = u64::from(MOST_LINES);

@@ -3,7 +3,7 @@ ghost use Rattle.std.specs.Prelude.{◌≡◌, true, IfErr, IfNone, IfOk, IfSome
 ghost use Rattle.std.specs.Io.Buffered.{reader_remaining};
 ghost use Rattle.node_seats.specs.Callers.{IsEnd};
 ghost use Rattle.node_seats.specs.Knowing.{Known, nothing_known};
-ghost use Rattle.console.specs.Consoles.{EndsBy, Stops, most_staying};
+ghost use Rattle.console.specs.Consoles.{EndsBy, Stops};
 ghost use Rattle.console.specs.Describing.{Says};
 ghost use Rattle.console.specs.Lent.{EndsLooking, IsFence, LentAnswers, LentGives, LentStands, LentWaits, LooksPastIt};
 ghost use Rattle.console.specs.Seats.{EndsWait, LooksPast, MayNotSay};
@@ -25,11 +25,8 @@ use std::io::{BufReader, Read, Write};
 use std::sync::Wait;
 use std::thread;
 use std::time::{Clock, Duration};
-use term::{Node, Pid};
+use term::{Node, Pid, STAYING_LINES};
 use text_lines::StreamFault;
-
-/// How many lines a console of a server that stays may have: more than come.
-const MOST_STAYING: u64 = u64::MAX;
 
 /// After how long a name is looked up again that is waited for, at first, in milliseconds.
 const FIRST_PAUSE: u64 = 1;
@@ -248,9 +245,9 @@ where
     C: Client + Drop,
     B: House<H>,
     ensures { MatchResult result
-        (λ how. (t : Known) × EndsBy LentAnswers LentStands true most_staying (reader_remaining R.remaining reader.old)
+        (λ how. (t : Known) × EndsBy LentAnswers LentStands true STAYING_LINES (reader_remaining R.remaining reader.old)
         (reader_remaining R.remaining reader.new) (W.contents writer.old) (W.contents writer.new) (nothing_known node) t how)
-        (λ fault. (t : Known) × Stops LentAnswers LentStands true most_staying (reader_remaining R.remaining reader.old)
+        (λ fault. (t : Known) × Stops LentAnswers LentStands true STAYING_LINES (reader_remaining R.remaining reader.old)
         (reader_remaining R.remaining reader.new) (W.contents writer.old) (W.contents writer.new) (nothing_known node) t fault) }
 {
     let known = Knowledge::new(node);
@@ -266,6 +263,6 @@ where
         writer,
         &mut attendant,
         true,
-        MOST_STAYING,
+        STAYING_LINES,
     )
 }

@@ -74,7 +74,7 @@ module _ (o : NamedOpening) where
     told_started = λ c a up p. (s.apart.inside c up.started).told a p;
     left_inside = λ d e. (s.inside d e, left_started o w s d e);
     not_started = λ n e. record {
-      node = s.apart.node n e ∙ opening_fresh o (in_cluster (opening_of o)) n (unstarted_lone o w s n e);
+      node = s.apart.node n e ∙ opening_fresh (in_cluster (opening_of o)) n (unstarted_lone o w s n e);
       silent = λ t. s.apart.silent n t e;
       stays = s.apart.stays n e;
       downs = λ d i l. s.apart.told d n e ∙ downs d n l i;

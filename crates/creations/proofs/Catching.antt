@@ -84,5 +84,5 @@ module _ (o : NamedOpening) (w : NamedWorld) (s : Sound o w) where
     fresh = record {
       inside = inside-n;
       stays = s.apart.stays n unstarted;
-      node = s.apart.node n unstarted ∙ opening_fresh o (in_cluster (opening_of o)) n (unstarted_lone o w s n unstarted);
+      node = s.apart.node n unstarted ∙ opening_fresh (in_cluster (opening_of o)) n (unstarted_lone o w s n unstarted);
     }

@@ -129,3 +129,7 @@ pub mod ByName
 pub mod NamedCalls
 pub mod NobodyBack
 pub mod NumbersRead
+pub mod SomeApart
+pub mod LeftOfStarted
+pub mod QuietStarted
+pub mod SomeStarted

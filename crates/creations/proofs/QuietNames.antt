@@ -34,19 +34,19 @@ use Rattle.creations.proofs.CaughtUp.{is_listed, unanswered, are_deliveries}
 use Rattle.creations.proofs.LeftOfNames
 
 -- where more events answer nothing
-answers_more : (o : Opening) (w : World) (xs ys : List WorldEvent) → all_answers o (run o w xs) ys ≡ []
+pub answers_more : (o : Opening) (w : World) (xs ys : List WorldEvent) → all_answers o (run o w xs) ys ≡ []
     → all_answers o w (xs ++ ys) ≡ all_answers o w xs
 answers_more o w [] ys e = e
 answers_more o w (x ∷ xs) ys e = ap (λ (l : List Answer). answers o w x ++ l) (answers_more o (happens o w x) xs ys e)
 
 -- tries over two lists
-tries-append : (o : Opening) (p : Process) (w : World) (xs ys : List WorldEvent) (t : Option Tries)
+pub tries-append : (o : Opening) (p : Process) (w : World) (xs ys : List WorldEvent) (t : Option Tries)
     → tries_from o w (xs ++ ys) p t ≡ tries_from o (run o w xs) ys p (tries_from o w xs p t)
 tries-append o p w [] ys t = refl
 tries-append o p w (x ∷ xs) ys t = tries-append o p (happens o w x) xs ys (tries_after o w x p t)
 
 -- deliveries leave the last try
-tries_kept : (o : Opening) (p : Process) (xs : List WorldEvent) → list_all is_delivery xs ≡ true → (w : World) (t : Tries)
+pub tries_kept : (o : Opening) (p : Process) (xs : List WorldEvent) → list_all is_delivery xs ≡ true → (w : World) (t : Tries)
     → (later : Tries) × (tries_from o w xs p (Some t) ≡ Some later) × (later.last ≡ t.last)
 tries_kept o p [] D w t = (t, refl, refl)
 tries_kept o p (At a e ∷ xs) D w t = absurd (cc D)

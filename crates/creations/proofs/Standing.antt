@@ -22,6 +22,34 @@ use Rattle.creations.proofs.Apart.{Apart, accepted_apart, unrefused_by}
 use Rattle.creations.proofs.Recorded.{RegistryIn, opening_recorded, accepted_recorded}
 use Rattle.creations.proofs.Growing.{left_grows, left_by, told_grows}
 
+-- a node that opens lone has nothing
+pub opening_fresh : (cluster : Nodes) (n : ℕ) → cluster n ≡ false → opening_node cluster n ≡ fresh_node nobody n
+opening_fresh cluster n e = ap lone_or e ∙ ap with_members (fun_ext (λ c. plain (c == n)))
+  where
+    lone_or : Bool → Node
+    lone_or b = record {
+      replica = record {
+        table = without nobody (if b then [] else []);
+        members = λ c. (if b then cluster c else c == n) && not false;
+        told = nobody;
+        joined = b;
+        notices = λ serial. [];
+      };
+      locks = [];
+      watch = nobody_yet;
+      queue = [];
+      current = Current.Free;
+      calls = [];
+      last_call = 0;
+    }
+
+    with_members : Nodes → Node
+    with_members s = let v : Node = fresh_node nobody n in record v { replica = record v.replica { members = s } }
+
+    plain : (b : Bool) → (b && true) ≡ b
+    plain true = refl
+    plain false = refl
+
 module _ (o : NamedOpening) where
   module _ (w : NamedWorld) where
     -- who has started
@@ -61,34 +89,6 @@ module _ (o : NamedOpening) where
         let c : creation_of o 0 ≡ 1 = ap (creation_of o) (sym e) ∙ creation-node o 0 1 one in
         let p : 1 ≤ w.present (name_of o 0) = (s.present (name_of o 0)).first in
         started_from 0 (omega (arith, c, p))
-
-  -- a node that opens lone has nothing
-  pub opening_fresh : (cluster : Nodes) (n : ℕ) → cluster n ≡ false → opening_node cluster n ≡ fresh_node nobody n
-  opening_fresh cluster n e = ap lone_or e ∙ ap with_members (fun_ext (λ c. plain (c == n)))
-    where
-      lone_or : Bool → Node
-      lone_or b = record {
-        replica = record {
-          table = without nobody (if b then [] else []);
-          members = λ c. (if b then cluster c else c == n) && not false;
-          told = nobody;
-          joined = b;
-          notices = λ serial. [];
-        };
-        locks = [];
-        watch = nobody_yet;
-        queue = [];
-        current = Current.Free;
-        calls = [];
-        last_call = 0;
-      }
-
-      with_members : Nodes → Node
-      with_members s = let v : Node = fresh_node nobody n in record v { replica = record v.replica { members = s } }
-
-      plain : (b : Bool) → (b && true) ≡ b
-      plain true = refl
-      plain false = refl
 
   -- a node at the opening knows of first nodes alone
   opens_inside : (n : ℕ) → has_started o (opening_named o) n ≡ true

@@ -22,7 +22,7 @@ use Rattle.creations.specs.Restarts.{fresh_node}
 abbrev pub told_turn : Nodes → ℕ → ℕ → Turn
 told_turn T n d = record { node = fresh_node (with_node d T) n; sends = []; entries = Told n d ∷ []; answers = [] }
 
-receive_down : (bound n d : ℕ) (number : ℕ → ℕ) (T : Nodes) → (d ≡ n → ⊥)
+pub receive_down : (bound n d : ℕ) (number : ℕ → ℕ) (T : Nodes) → (d ≡ n → ⊥)
     → receive bound n number d Letter.Down (begun (fresh_node T n)) ≡ told_turn T n d
 receive_down bound n d number T ne =
     unread (T d) ∙ ap (λ (s : Nodes). let v : Node = fresh_node (with_node d T) n in

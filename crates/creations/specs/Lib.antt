@@ -15,3 +15,4 @@ pub mod WorldsOfNames
 pub mod NamedLinks
 pub mod NobodyBack
 pub mod JoinNumbers
+pub mod SomeStarted

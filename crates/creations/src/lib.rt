@@ -16,6 +16,7 @@ ghost use Rattle.creations.specs.WorldsOfNames.{OfNames, OfTheirNodes};
 ghost use Rattle.creations.specs.Lifted.{RestartsAreLegal, AcceptedEventsArePlayed, AnswersStayAtTheirNode};
 ghost use Rattle.creations.specs.NamedCalls.{NamesAlwaysMeanMembers};
 ghost use Rattle.creations.specs.NobodyBack.{NobodyCameBack};
+ghost use Rattle.creations.specs.SomeStarted.{OfStarted};
 
 /// A name and a creation are one number, and numbers rise by name, then creation.
 pub fn numbers_are_exact()
@@ -126,6 +127,16 @@ pub fn nobody_came_back()
 /// node that has left; once no operation waits for a retry either, no dead process has a name.
 pub fn nothing_is_left()
     ensures { OfNames NothingIsLeft }
+{}
+
+/// Where some nodes never start, which make no step then, what is said of all worlds is said of the others alone: the `Down`s that wait for
+/// those that never start are left out of account. So the headline holds, locks exclude each other, lock calls are answered as they are to
+/// be, and nothing is left over, once no letter waits for a node that starts.
+pub fn laws_of_started()
+    ensures agrees { OfStarted Agrees }
+    ensures excludes { OfStarted Excludes }
+    ensures locks { OfStarted ClientLocks }
+    ensures nothing_is_left { OfStarted NothingIsLeft }
 {}
 
 /// Each restart is legal by the registry, too: the node before has left, and each running node was told so.

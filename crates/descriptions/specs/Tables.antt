@@ -4,12 +4,9 @@ use Rattle.std.specs.BTreeMap.{BTreeMap, btree_map_len, get}
 use Rattle.std.specs.Ordering.{nat_cmp, ordering_then}
 use Rattle.std.specs.declared.cmp.Ordering.{Ordering}
 use Rattle.registry_model.specs.Process.{Process}
+use Rattle.term.specs.declared.limits.TheConstants.{MOST_DESCRIPTIONS}
 use Rattle.descriptions.specs.declared.descriptions.DescriptionFault.{DescriptionFault}
 use Rattle.descriptions.specs.declared.descriptions.DescriptionFault.TheVariants.{TooMany, Memory}
-
--- the most processes that may be described
-abbrev pub most : ℕ
-most = 65536
 
 -- by node, then by serial
 abbrev pub process_cmp : Process → Process → Ordering
@@ -21,7 +18,7 @@ Texts = BTreeMap Process (List ℕ)
 
 -- there is no place for one of this process: it has none, and as many others have one as may
 abbrev pub lacks_place : Process → Texts → Bool
-lacks_place p texts = not (nat_lt (btree_map_len texts) most) && not (is_some (get process_cmp texts p))
+lacks_place p texts = not (nat_lt (btree_map_len texts) MOST_DESCRIPTIONS) && not (is_some (get process_cmp texts p))
 
 -- why none is taken up, by whether there is no place
 abbrev pub RefusesMore : DescriptionFault → Bool → Type 0

@@ -5,12 +5,12 @@ ghost use Rattle.descriptions.specs.Texts.{IsDescription, IsFirstUnprintable, Re
 
 use arrayvec::ArrayString;
 use std::marker::Model;
-use term::TextFault;
+use term::{LONGEST_DESCRIPTION, TextFault};
 
 /// What is said of a process: 1 to 256 bytes of printable ASCII, spaces among them, held in place.
 #[derive(Drop)]
 pub struct Description {
-    text: ArrayString<256>,
+    text: ArrayString<LONGEST_DESCRIPTION>,
 }
 
 impl Model for Description {

@@ -2,15 +2,13 @@
 ghost use Rattle.std.specs.Prelude.{◌≡◌, ◌≤◌, [], false, filter, not, MatchResult, OnErr, OnOk, ◌==◌};
 ghost use Rattle.std.specs.BTreeMap.{btree_map_len, get, insert_entry, is_at};
 ghost use Rattle.std.specs.Map.{remove_entry};
-ghost use Rattle.descriptions.specs.Tables.{RefusesMore, lacks_place, most, process_cmp};
+ghost use Rattle.descriptions.specs.Tables.{RefusesMore, lacks_place, process_cmp};
+ghost use Rattle.term.specs.declared.limits.TheConstants.{MOST_DESCRIPTIONS};
 
 use crate::description::Description;
 use std::alloc::Global;
 use std::collections::BTreeMap;
-use term::{Node, Pid};
-
-/// How many processes may be described at once.
-pub const MOST_DESCRIPTIONS: usize = 65_536;
+use term::{MOST_DESCRIPTIONS, Node, Pid};
 
 /// Why a process isn't described.
 #[derive(Clone, Copy, Debug, PartialEq, Eq)]
@@ -25,7 +23,7 @@ pub enum DescriptionFault {
 #[derive(Drop)]
 pub struct Descriptions {
     texts: BTreeMap<Pid, Description>,
-    ghost few: { btree_map_len texts ≤ most },
+    ghost few: { btree_map_len texts ≤ MOST_DESCRIPTIONS },
 }
 
 impl Descriptions {

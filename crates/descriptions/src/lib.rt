@@ -6,5 +6,5 @@ mod descriptions;
 mod shared;
 
 pub use description::Description;
-pub use descriptions::{DescriptionFault, Descriptions, MOST_DESCRIPTIONS};
+pub use descriptions::{DescriptionFault, Descriptions};
 pub use shared::SharedDescriptions;

@@ -4,7 +4,8 @@ ghost use Rattle.registry_model.specs.Process.{with_node};
 ghost use Rattle.registry_model.specs.Table.{put_all, remove_all, is_rising};
 ghost use Rattle.registry_model.specs.Settlement.{with_settled};
 ghost use Rattle.protocol_model.specs.Letter.{Letter};
-ghost use Rattle.term.specs.NodeSets.{set_of, most_nodes, with_node as and_node, with_older};
+ghost use Rattle.term.specs.NodeSets.{set_of, with_node as and_node, with_older};
+ghost use Rattle.term.specs.declared.limits.TheConstants.{MOST_NODES};
 ghost use Rattle.exchange.specs.Bodies.{admit_letter, welcome_letter};
 
 use crate::notices::Noted;
@@ -140,7 +141,7 @@ pub fn welcome_of<N: Names<Memory = Global>>(
     told: &NodeSet,
     settled: &Settled,
 ) -> Result<Welcome, AllocError>
-    requires { length (and_node members.now joiner.now) ≤ most_nodes }
+    requires { length (and_node members.now joiner.now) ≤ MOST_NODES }
     ensures letter { IfOk result (λ body. welcome_letter body
         ≡ Letter.Welcome (with_node joiner.now (set_of members.now))
         (with_settled settled.now (N.contents table.now)) (with_older told.now) settled.now.fate) }

@@ -3,3 +3,6 @@ mod Serials
 mod Sets
 mod Suspects
 mod Exits
+pub mod Keys
+mod Joining
+mod Counting

@@ -10,7 +10,7 @@ use Rattle.std.specs.declared.cmp.Ordering.TheVariants.{Less, Equal, Greater}
 use Rattle.std.proofs.lemmas.Bool.{cases_lt, ne_eqb, le-ltb}
 use Rattle.std.proofs.lemmas.List.{map-id}
 use Rattle.std.proofs.lemmas.Slice.Zip.{AllZip-map}
-use Rattle.spans.proofs.Keys.{any-at, at_is, at_self}
+use Rattle.exit_watch.proofs.Keys.{any-at, at_is, at_self}
 
 -- who isn't greater is less, or the same
 pub not_greater : (s r : ℕ) → is_gt (nat_cmp s r) ≡ false → s ≤ r

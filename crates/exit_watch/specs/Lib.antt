@@ -1,3 +1,3 @@
-pub use Rattle.spans.specs.Spans
+pub mod Spans
 pub mod Faults
 pub mod Held

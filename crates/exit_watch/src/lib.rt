@@ -4,10 +4,13 @@
 //! were spawned.
 #![tactic(auto)]
 
+mod dead;
 mod faults;
 mod laws;
+mod spans;
 mod watch;
 
+pub use dead::Dead;
 pub use faults::WatchFault;
 pub use laws::only_puts_are_noted;
 pub use watch::Watch;

@@ -2,7 +2,7 @@
 ghost use Rattle.std.specs.Prelude.{◌≡◌, true, false, nat_eq, nat_lt, Some, OnOk, OnErr, IfOk, IfErr};
 ghost use Rattle.std.specs.Option.{option_map};
 ghost use Rattle.std.specs.Set.{distinct_count};
-ghost use Rattle.spans.specs.Spans.{ends};
+ghost use Rattle.exit_watch.specs.Spans.{ends};
 ghost use Rattle.registry_model.specs.Table.{Pair, Table, put};
 ghost use Rattle.protocol_model.specs.Watch.{is_live, is_dead, is_issued, next_serial, with_spawned, with_dead, owed};
 ghost use Rattle.protocol_model.specs.Event.{Calling, Exiting, Spawn, last_u32};
@@ -10,9 +10,9 @@ ghost use Rattle.exit_watch.specs.Faults.{Refuses, refusal_of, cause_of};
 ghost use Rattle.exit_watch.specs.Held.{watch_from, process_of, serial_left, with_killed, is_unnoted, AreSuspected, KeepsSuspects};
 ghost use Rattle.exit_watch.specs.declared.faults.WatchFault.TheVariants.{SerialsSpent, Memory};
 
+use crate::dead::Dead;
 use crate::faults::WatchFault;
 use name_table::Names;
-use spans::Dead;
 use std::alloc::{AllocError, Global};
 use std::collections::BTreeSet;
 use std::marker::Model;

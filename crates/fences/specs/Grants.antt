@@ -1,5 +1,6 @@
 -- Grants in a run: which node holds what when they are answered, and the number that goes with each.
 use Rattle.std.specs.Prelude.{ℕ, Bool, true, false, ◌≡◌, ◌==◌, ◌&&◌, ◌<◌, ◌+◌, ◌*◌, Contains, Some, List, [], ◌∷◌, ◌++◌}
+use Rattle.registry_model.specs.declared.limits.TheConstants.{MOST_NODES}
 use Rattle.registry_model.specs.Process.{Text, Process}
 use Rattle.registry_model.specs.Call.{True}
 use Rattle.protocol_model.specs.Letter.{Id, Client}
@@ -16,13 +17,13 @@ pub record IsRun (o : Opening) (ss : List Step) : Type 0 where
   pub order : IsInOrder ss
   pub takes : TakesAll o (opening_world o) ss
 
--- the number of a step: its stamp, and behind it the place of its node, of which there are eight
+-- the number of a step: its stamp, and behind it the place of its node, one of as many as there may be nodes
 abbrev pub fence : (ℕ → ℕ) → Step → ℕ
-fence place s = s.entry.stamp * 8 + place s.node
+fence place s = s.entry.stamp * MOST_NODES + place s.node
 
 -- each node of the world has one of these places
 abbrev pub ArePlaces : Opening → (ℕ → ℕ) → Type 0
-ArePlaces o place = (a : ℕ) → in_world o a ≡ true → place a < 8
+ArePlaces o place = (a : ℕ) → in_world o a ≡ true → place a < MOST_NODES
 
 -- p's last try is answered `true`
 abbrev pub true_to : Process → Tries → Answer

@@ -1,5 +1,6 @@
 -- The law of fences: who holds a resource later has the greater number.
 use Rattle.std.specs.Prelude.{ℕ, true, ◌≡◌, ◌⊎◌, ◌<◌, ◌↔◌, List, ◌∷◌, ◌++◌}
+use Rattle.registry_model.specs.declared.limits.TheConstants.{MOST_NODES}
 use Rattle.registry_model.specs.Table.{Table}
 use Rattle.protocol_model.specs.World.{Opening, in_world}
 use Rattle.closings.specs.Alone.{Entry}
@@ -9,7 +10,7 @@ use Rattle.fences.specs.Grants.{IsRun, fence, ArePlaces, Grant, RunsAt, IsReques
 
 -- numbers are ordered by stamp, and those of one stamp by place
 abbrev pub FencesAreOrdered : Type 0
-FencesAreOrdered = (place : ℕ → ℕ) (s t : Step) → place s.node < 8 → place t.node < 8 →
+FencesAreOrdered = (place : ℕ → ℕ) (s t : Step) → place s.node < MOST_NODES → place t.node < MOST_NODES →
     (fence place s < fence place t)
     ↔ ((s.entry.stamp < t.entry.stamp) ⊎ ((s.entry.stamp ≡ t.entry.stamp) × (place s.node < place t.node)))
 

@@ -12,7 +12,8 @@ use Rattle.exchange.specs.declared.bodies.Welcome.{Welcome as AWelcome}
 use Rattle.node_events.specs.declared.events.Letter.{Letter}
 use Rattle.node_events.specs.declared.events.Letter.TheVariants as letter
 use Rattle.node_events.specs.Letters.{letter_of}
-use Rattle.term.specs.NodeSets.{IsNodeSet, with_node, most_nodes}
+use Rattle.term.specs.NodeSets.{IsNodeSet, with_node}
+use Rattle.term.specs.declared.limits.TheConstants.{MOST_NODES}
 use Rattle.term.proofs.NodeSets.{rises, with_node-fits}
 use Rattle.letter_lines.specs.declared.part.Part.{Part}
 use Rattle.letter_lines.specs.declared.part.Part.TheVariants.{Pair, Put, Remove, Kill, Notice, Member, Told, JoinAsk, Admit, Welcome}
@@ -57,7 +58,7 @@ next_above front nodes n k set inside =
 room_for : (front nodes : List ℕ) (n : ℕ) → IsNodeSet (front ++ n ∷ nodes) → has_room front n ≡ true
 room_for front nodes n set =
     let long : length (front ++ n ∷ nodes) ≡ length front + length (n ∷ nodes) = length-append front (n ∷ nodes) in
-    rw (lt-ltb (length front) most_nodes (omega (arith, long, set.fits))) refl
+    rw (lt-ltb (length front) MOST_NODES (omega (arith, long, set.fits))) refl
 
 -- nodes of a set are kept one behind the other
 set_kept : (make : ℕ → Part) (keeps : List ℕ → Gathered)

@@ -8,7 +8,8 @@ use Rattle.node_events.specs.declared.events.Letter.{Letter}
 use Rattle.node_events.specs.declared.events.Letter.TheVariants as letter
 use Rattle.node_events.specs.Letters.{letter_of}
 use Rattle.term.specs.declared.faults.TextFault.TheVariants.{TooManyNodes}
-use Rattle.term.specs.NodeSets.{set_of, with_node, with_older, most_nodes}
+use Rattle.term.specs.NodeSets.{set_of, with_node, with_older}
+use Rattle.term.specs.declared.limits.TheConstants.{MOST_NODES}
 use Rattle.letter_lines.specs.declared.faults.LetterFault.{LetterFault}
 use Rattle.letter_lines.specs.declared.faults.LetterFault.TheVariants.{BadLine, Text, Memory}
 use Rattle.letter_lines.specs.declared.part.Part.{Part}
@@ -69,7 +70,7 @@ is_nothing g = lacks g.pairs && is_of_pairs g
 
 -- the set has room for the node, or has it
 abbrev pub has_room : List ℕ → ℕ → Bool
-has_room nodes n = nat_lt (length nodes) most_nodes || set_of nodes n
+has_room nodes n = nat_lt (length nodes) MOST_NODES || set_of nodes n
 
 -- what becomes of processes, by the items
 abbrev pub fate_of : Gathered → Fate

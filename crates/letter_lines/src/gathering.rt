@@ -80,6 +80,27 @@ impl Gathering {
         }
     }
 
+    /// The members that were read.
+    pub fn members(&self) -> &NodeSet
+        ensures { result.now ≡ self.now.members }
+    {
+        &self.members
+    }
+
+    /// The nodes that were read of those that have left.
+    pub fn told(&self) -> &NodeSet
+        ensures { result.now ≡ self.now.told }
+    {
+        &self.told
+    }
+
+    /// The names that were read with their owners.
+    pub fn pairs(&self) -> &[Pair]
+        ensures { result.now ≡ self.now.pairs }
+    {
+        self.pairs.as_slice()
+    }
+
     /// Whether no process dies and none is sent anything.
     fn has_no_fate(&self) -> bool
         ensures { result ≡ has_no_fate self.now }

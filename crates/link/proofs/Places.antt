@@ -10,7 +10,7 @@ use Rattle.std.proofs.lemmas.List.Kept.{AllPairs-from_increasing}
 use Rattle.std.proofs.lemmas.List.Sums.{fails_before_first}
 use Rattle.registry_model.proofs.Updates.{by_test}
 use Rattle.term.proofs.NodePlaces.{place-Some, one_place}
-use Rattle.term.specs.declared.node_set.TheConstants.{MOST_NODES}
+use Rattle.term.specs.declared.limits.TheConstants.{MOST_NODES}
 use Rattle.link.specs.Faults.{joins, IsLinkOf}
 use Rattle.link.specs.declared.link_place.LinkPlace.{LinkPlace}
 use Rattle.link.specs.Held.{Held, IsWhole, place, has, link_at, closed_at, seen, node_at, from_of, to_of, IsWithin}

@@ -5,7 +5,7 @@ use Rattle.std.proofs.lemmas.Bool.{cases_eq, cases_order}
 use Rattle.std.proofs.lemmas.Grind.{get_or_default_zero}
 use Rattle.std.proofs.lemmas.List.Kept.{AllPairs-from_increasing}
 use Rattle.protocol_model.specs.Links.{is_nil}
-use Rattle.term.specs.declared.node_set.TheConstants.{MOST_NODES}
+use Rattle.term.specs.declared.limits.TheConstants.{MOST_NODES}
 use Rattle.link.specs.Held.{Held, IsWhole, place, link_at, seen, WaitsFrom, IsFirst, WaitsFirst, WaitsTowards}
 use Rattle.term.proofs.NodePlaces.{place-Some}
 use Rattle.link.proofs.Places.{place-get_or, link_at-Some}

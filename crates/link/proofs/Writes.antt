@@ -6,7 +6,7 @@ use Rattle.std.proofs.lemmas.Bool.{eq-eqb, ne_eqb}
 use Rattle.std.proofs.lemmas.List.{append-nil}
 use Rattle.registry_model.proofs.Updates.{by_test}
 use Rattle.protocol_model.specs.Links.{Links, posted, taken, closed_out}
-use Rattle.term.specs.declared.node_set.TheConstants.{MOST_NODES}
+use Rattle.term.specs.declared.limits.TheConstants.{MOST_NODES}
 use Rattle.link.specs.Held.{Held, IsWhole, place, link_at, seen, only_to}
 use Rattle.link.specs.Reopening.{reopened}
 use Rattle.term.proofs.NodePlaces.{place-Some, one_place}

@@ -13,7 +13,7 @@ mod station;
 pub use faults::{LinkFault, Unsent};
 pub use laws::{prefixes_are_delivered, stamped_prefixes_are_delivered};
 pub use link_place::LinkPlace;
-pub use mailbox::{INBOX_ROOM, Mailbox, Port, Root, Sourced, compare, open};
+pub use mailbox::{Mailbox, Port, Root, Sourced, compare, open};
 pub use mesh::{Mesh, are_rising};
 pub use mesh_end::MeshEnd;
 pub use station::{Inbox, Post, Station};

@@ -14,9 +14,6 @@ use std::alloc::AllocError;
 use std::sync::Wait;
 pub use whole::{compare, open};
 
-/// How many items a node's inbox has room for.
-pub const INBOX_ROOM: usize = 4096;
-
 type Sender<T> = RuledSender<T, Hand<T>, InOrder>;
 
 type Receiver<T> = RuledReceiver<T, Hand<T>, InOrder>;

@@ -1,6 +1,6 @@
 -- What the answers of tests and calls say.
-use Rattle.std.proofs.Common.{ℕ, Bool, true, false, ◌==◌, ◌≡◌, Option, Some, None, refl, sym, ◌∙◌}
-use Rattle.std.specs.Prelude.{◌&&◌, not, IfNone, MatchBool}
+use Rattle.std.proofs.Common.{ℕ, Bool, true, false, ◌==◌, ◌≡◌, Option, Some, None, Result, Ok, Err, refl, sym, ◌∙◌}
+use Rattle.std.specs.Prelude.{◌&&◌, not, IfNone, MatchBool, OnErr}
 use Rattle.std.proofs.lemmas.Bool.{eqb-true}
 
 -- both of two tests that hold together
@@ -38,3 +38,8 @@ on_none_given (Some x) h = tt
 pub on_none : {X P Q : Type 0} (r : Option X) → IfNone r P → (P → Q) → IfNone r Q
 on_none None h f = f h
 on_none (Some x) h f = tt
+
+-- what is so in any case is so where something is refused
+pub where_refused : {T E P : Type 0} (r : Result T E) → P → OnErr r P
+where_refused (Ok x) h = tt
+where_refused (Err e) h = h

@@ -1,52 +1,35 @@
 -- Where the grants of each holder stand, after a change of what is filed.
-use Rattle.std.proofs.Common.{ℕ, Bool, true, false, ◌==◌, ◌≡◌, ◌<◌, Option, Some, None, List, refl, sym, ap, ◌∙◌, subst, arith, nat_cmp}
-use Rattle.std.specs.Prelude.{◌&&◌, cond, All}
-use Rattle.std.specs.BTreeMap.{BTreeMap, get, is_at}
-use Rattle.std.specs.Ordering.{ordering_then}
+use Rattle.std.proofs.Common.{ℕ, Bool, true, false, ◌==◌, ◌≡◌, ◌<◌, Option, Some, None, List, refl, sym, ap, ◌∙◌, subst, arith}
+use Rattle.std.specs.Prelude.{cond, All}
 use Rattle.std.proofs.lemmas.Bool.{eqb-true, eq-eqb}
 use Rattle.std.proofs.lemmas.List.Elements.{All-contains}
 use Rattle.std.proofs.lemmas.Map.Views.{Contains-from_lookup}
 use Rattle.registry_model.specs.Process.{Process, Text, is_process}
 use Rattle.lock_table.specs.declared.grant.Key.{Key}
 use Rattle.lock_table.specs.declared.grant.Held.{Held}
-use Rattle.lock_table.specs.declared.grant.Place.{Place}
 use Rattle.lock_table.specs.Filed.{Entry, held_at, is_key}
-use Rattle.lock_table.specs.Index.{IsIndexed, place_at, place_cmp}
+use Rattle.lock_table.specs.Index.{IsIndexed, Place, Places, SetsAt, StandsAs, is_place, place_at, resource_at}
 use Rattle.lock_table.proofs.Changes.{same_process}
 use Rattle.lock_table.proofs.Facts.{both}
-use Rattle.lock_table.proofs.Keys.{exact, is_key_self, is_eq-nat, is_eq-then}
+use Rattle.lock_table.proofs.Keys.{exact, is_key_self}
 
--- a place is found where it has this holder and this number
-is_at-place : (p q : Place) → is_at (place_cmp p) q ≡ (is_process q.holder p.holder && (q.number == p.number))
-is_at-place p q =
-    is_eq-then
-    (ordering_then (nat_cmp p.holder.node q.holder.node) (nat_cmp p.holder.serial q.holder.serial))
-    (nat_cmp p.number q.number)
-    ∙ rw (
-      is_eq-then (nat_cmp p.holder.node q.holder.node) (nat_cmp p.holder.serial q.holder.serial),
-      is_eq-nat p.holder.node q.holder.node,
-      is_eq-nat p.holder.serial q.holder.serial,
-      is_eq-nat p.number q.number,
-    ) refl
-
-place_exact : (p q : Place) → is_at (place_cmp p) q ≡ true → p ≡ q
+place_exact : (p q : Place) → is_place p q ≡ true → p ≡ q
 place_exact p q h =
-    let e = both (is_process q.holder p.holder) (q.number == p.number) (sym (is_at-place p q) ∙ h) in
+    let e = both (is_process q.holder p.holder) (q.number == p.number) h in
     ap (λ (n : ℕ). record p { number = n }) (sym (eqb-true q.number p.number e.1))
     ∙ ap (λ (o : Process). record q { holder = o }) (sym (same_process q.holder p.holder e.0))
 
-is_at-place_self : (p : Place) → is_at (place_cmp p) p ≡ true
-is_at-place_self p = is_at-place p p
-    ∙ rw (
-      eq-eqb p.holder.node p.holder.node refl,
-      eq-eqb p.holder.serial p.holder.serial refl,
-      eq-eqb p.number p.number refl,
-    ) refl
+is_place_self : (p : Place) → is_place p p ≡ true
+is_place_self p = rw (
+  eq-eqb p.holder.node p.holder.node refl,
+  eq-eqb p.holder.serial p.holder.serial refl,
+  eq-eqb p.number p.number refl,
+) refl
 
 -- what stands at a place that is this one
-at_same : (p q : Place) (x : BTreeMap Place Text) (r : Text) → p ≡ q → get place_cmp x q ≡ Some r
-    → get place_cmp x p ≡ Some r
-at_same p q x r same e = ap (get place_cmp x) same ∙ e
+at_same : (p q : Place) (x : Places) (r : Text) → p ≡ q → resource_at x q ≡ Some r
+    → resource_at x p ≡ Some r
+at_same p q x r same e = ap (resource_at x) same ∙ e
 
 same_value : {X : Type 0} (o : Option X) (a b : X) → o ≡ Some a → o ≡ Some b → a ≡ b
 same_value o a b e f = cc (e, f)
@@ -55,30 +38,33 @@ same_value o a b e f = cc (e, f)
 abbrev pub Sets : Key → Option Held → List Entry → List Entry → Type 0
 Sets k w m n = (q : Key) → held_at n q ≡ cond (is_key k q) w (held_at m q)
 
--- y has r at the place p, and at the other places what x has
-abbrev pub SetsAt : Place → Option Text → BTreeMap Place Text → BTreeMap Place Text → Type 0
-SetsAt p r x y = (q : Place) → get place_cmp y q ≡ cond (is_at (place_cmp p) q) r (get place_cmp x q)
+-- the same grants, where each place has what it had
+pub indexed-same : (m : List Entry) (x y : Places) → StandsAs x y → IsIndexed m x → IsIndexed m y
+indexed-same m x y same ix = record {
+  placed = λ k v held. same (place_at k.holder v.number) ∙ ix.placed k v held;
+  filed = λ q r found. ix.filed q r (sym (same q) ∙ found);
+}
 
-module _ (m n : List Entry) (x y : BTreeMap Place Text) (ix : IsIndexed m x) where
+module _ (m n : List Entry) (x y : Places) (ix : IsIndexed m x) where
   module _ (k : Key) (v : Held) where
     -- another count
     module _ (w : Held) (found : held_at m k ≡ Some v) (same : w.number ≡ v.number)
         (sets : Sets k (Some w) m n) where
       placed_recount : (q : Key) (u : Held) → held_at n q ≡ Some u
-          → get place_cmp x (place_at q.holder u.number) ≡ Some q.resource
+          → resource_at x (place_at q.holder u.number) ≡ Some q.resource
       placed_recount q u e = go (is_key k q) refl (sets q)
         where
           go : (b : Bool) → is_key k q ≡ b → held_at n q ≡ cond b (Some w) (held_at m q)
-              → get place_cmp x (place_at q.holder u.number) ≡ Some q.resource
+              → resource_at x (place_at q.holder u.number) ≡ Some q.resource
           go true i f =
               let here = same_value (held_at n q) w u f e in
               let numbers : v.number ≡ u.number = sym same ∙ ap (λ (h : Held). h.number) here in
-              subst (λ (z : Key). get place_cmp x (place_at z.holder u.number) ≡ Some z.resource) (exact k q i)
-              (subst (λ (j : ℕ). get place_cmp x (place_at k.holder j) ≡ Some k.resource) numbers
+              subst (λ (z : Key). resource_at x (place_at z.holder u.number) ≡ Some z.resource) (exact k q i)
+              (subst (λ (j : ℕ). resource_at x (place_at k.holder j) ≡ Some k.resource) numbers
               (ix.placed k v found))
           go false i f = ix.placed q u (sym f ∙ e)
 
-      filed_recount : (q : Place) (r : Text) → get place_cmp x q ≡ Some r
+      filed_recount : (q : Place) (r : Text) → resource_at x q ≡ Some r
           → (u : Held) × (held_at n (record { resource = r; holder = q.holder }) ≡ Some u) × (u.number ≡ q.number)
       filed_recount q r e = go (is_key k z) refl (sets z)
         where
@@ -107,23 +93,23 @@ module _ (m n : List Entry) (x y : BTreeMap Place Text) (ix : IsIndexed m x) whe
       NewPlace = place_at k.holder v.number
 
       placed_first : (q : Key) (u : Held) → held_at n q ≡ Some u
-          → get place_cmp y (place_at q.holder u.number) ≡ Some q.resource
+          → resource_at y (place_at q.holder u.number) ≡ Some q.resource
       placed_first q u e = go (is_key k q) refl (sets q)
         where
           go : (b : Bool) → is_key k q ≡ b → held_at n q ≡ cond b (Some v) (held_at m q)
-              → get place_cmp y (place_at q.holder u.number) ≡ Some q.resource
+              → resource_at y (place_at q.holder u.number) ≡ Some q.resource
           go true i f =
               let here = same_value (held_at n q) v u f e in
-              subst (λ (z : Key). get place_cmp y (place_at z.holder u.number) ≡ Some z.resource) (exact k q i)
-              (subst (λ (h : Held). get place_cmp y (place_at k.holder h.number) ≡ Some k.resource) here
-              (places NewPlace ∙ rw (is_at-place_self NewPlace) refl))
+              subst (λ (z : Key). resource_at y (place_at z.holder u.number) ≡ Some z.resource) (exact k q i)
+              (subst (λ (h : Held). resource_at y (place_at k.holder h.number) ≡ Some k.resource) here
+              (places NewPlace ∙ rw (is_place_self NewPlace) refl))
           go false i f =
-              new (is_at (place_cmp NewPlace) (place_at q.holder u.number)) refl (places (place_at q.holder u.number))
+              new (is_place NewPlace (place_at q.holder u.number)) refl (places (place_at q.holder u.number))
             where
-              new : (b : Bool) → is_at (place_cmp NewPlace) (place_at q.holder u.number) ≡ b
-                  → get place_cmp y (place_at q.holder u.number)
-                  ≡ cond b (Some k.resource) (get place_cmp x (place_at q.holder u.number))
-                  → get place_cmp y (place_at q.holder u.number) ≡ Some q.resource
+              new : (b : Bool) → is_place NewPlace (place_at q.holder u.number) ≡ b
+                  → resource_at y (place_at q.holder u.number)
+                  ≡ cond b (Some k.resource) (resource_at x (place_at q.holder u.number))
+                  → resource_at y (place_at q.holder u.number) ≡ Some q.resource
               new true j g =
                   let l : u.number < v.number = below q u (sym f ∙ e) in
                   let s : v.number ≡ u.number =
@@ -131,19 +117,19 @@ module _ (m n : List Entry) (x y : BTreeMap Place Text) (ix : IsIndexed m x) whe
                   absurd (omega (arith, l, s))
               new false j g = g ∙ ix.placed q u (sym f ∙ e)
 
-      filed_first : (q : Place) (r : Text) → get place_cmp y q ≡ Some r
+      filed_first : (q : Place) (r : Text) → resource_at y q ≡ Some r
           → (u : Held) × (held_at n (record { resource = r; holder = q.holder }) ≡ Some u) × (u.number ≡ q.number)
-      filed_first q r e = go (is_at (place_cmp NewPlace) q) refl (places q)
+      filed_first q r e = go (is_place NewPlace q) refl (places q)
         where
           z : Key
           z = record { resource = r; holder = q.holder }
 
-          go : (b : Bool) → is_at (place_cmp NewPlace) q ≡ b → get place_cmp y q ≡ cond b (Some k.resource) (get place_cmp x q)
+          go : (b : Bool) → is_place NewPlace q ≡ b → resource_at y q ≡ cond b (Some k.resource) (resource_at x q)
               → (u : Held) × (held_at n z ≡ Some u) × (u.number ≡ q.number)
           go true i f =
               let s : NewPlace ≡ q = place_exact NewPlace q i in
               let same : k ≡ z =
-              ap (λ (t : Text). record k { resource = t }) (same_value (get place_cmp y q) k.resource r f e)
+              ap (λ (t : Text). record k { resource = t }) (same_value (resource_at y q) k.resource r f e)
               ∙ ap (λ (o : Process). record z { holder = o }) (ap (λ (t : Place). t.holder) s) in
               (v, ap (held_at n) (sym same) ∙ sets k ∙ rw (is_key_self k) refl, ap (λ (t : Place). t.number) s)
           go false i f = old (ix.filed q r (sym f ∙ e))
@@ -167,27 +153,27 @@ module _ (m n : List Entry) (x y : BTreeMap Place Text) (ix : IsIndexed m x) whe
       OldPlace = place_at k.holder v.number
 
       placed_gone : (q : Key) (u : Held) → held_at n q ≡ Some u
-          → get place_cmp y (place_at q.holder u.number) ≡ Some q.resource
+          → resource_at y (place_at q.holder u.number) ≡ Some q.resource
       placed_gone q u e = go (is_key k q) refl (sets q)
         where
           t : Place
           t = place_at q.holder u.number
 
           go : (b : Bool) → is_key k q ≡ b → held_at n q ≡ cond b None (held_at m q)
-              → get place_cmp y t ≡ Some q.resource
+              → resource_at y t ≡ Some q.resource
           go true i f = absurd (cc (f, e))
-          go false i f = new (is_at (place_cmp OldPlace) t) refl (places t)
+          go false i f = new (is_place OldPlace t) refl (places t)
             where
-              was : get place_cmp x t ≡ Some q.resource
+              was : resource_at x t ≡ Some q.resource
               was = ix.placed q u (sym f ∙ e)
 
-              new : (b : Bool) → is_at (place_cmp OldPlace) t ≡ b
-                  → get place_cmp y t ≡ cond b None (get place_cmp x t)
-                  → get place_cmp y t ≡ Some q.resource
+              new : (b : Bool) → is_place OldPlace t ≡ b
+                  → resource_at y t ≡ cond b None (resource_at x t)
+                  → resource_at y t ≡ Some q.resource
               new true j g =
                   let s : OldPlace ≡ t = place_exact OldPlace t j in
                   let on : k.resource ≡ q.resource =
-                  same_value (get place_cmp x OldPlace) k.resource q.resource (ix.placed k v found)
+                  same_value (resource_at x OldPlace) k.resource q.resource (ix.placed k v found)
                   (at_same OldPlace t x q.resource s was) in
                   let same : k ≡ q =
                   ap (λ (r : Text). record k { resource = r }) on
@@ -197,14 +183,14 @@ module _ (m n : List Entry) (x y : BTreeMap Place Text) (ix : IsIndexed m x) whe
                   absurd (cc (i, self))
               new false j g = g ∙ was
 
-      filed_gone : (q : Place) (r : Text) → get place_cmp y q ≡ Some r
+      filed_gone : (q : Place) (r : Text) → resource_at y q ≡ Some r
           → (u : Held) × (held_at n (record { resource = r; holder = q.holder }) ≡ Some u) × (u.number ≡ q.number)
-      filed_gone q r e = go (is_at (place_cmp OldPlace) q) refl (places q)
+      filed_gone q r e = go (is_place OldPlace q) refl (places q)
         where
           z : Key
           z = record { resource = r; holder = q.holder }
 
-          go : (b : Bool) → is_at (place_cmp OldPlace) q ≡ b → get place_cmp y q ≡ cond b None (get place_cmp x q)
+          go : (b : Bool) → is_place OldPlace q ≡ b → resource_at y q ≡ cond b None (resource_at x q)
               → (u : Held) × (held_at n z ≡ Some u) × (u.number ≡ q.number)
           go true i f = absurd (cc (f, e))
           go false i f = old (ix.filed q r (sym f ∙ e))
@@ -222,8 +208,8 @@ module _ (m n : List Entry) (x y : BTreeMap Place Text) (ix : IsIndexed m x) whe
                       let s : OldPlace ≡ q =
                       ap (λ (o : Process). place_at o v.number) (ap (λ (t : Key). t.holder) same)
                       ∙ ap (λ (j : ℕ). place_at q.holder j) (ap (λ (u : Held). u.number) here ∙ h.2) in
-                      let self : is_at (place_cmp OldPlace) q ≡ true =
-                      subst (λ (t : Place). is_at (place_cmp OldPlace) t ≡ true) s (is_at-place_self OldPlace) in
+                      let self : is_place OldPlace q ≡ true =
+                      subst (λ (t : Place). is_place OldPlace t ≡ true) s (is_place_self OldPlace) in
                       absurd (cc (i, self))
                   new false j g = (h.0, g ∙ h.1, h.2)
 

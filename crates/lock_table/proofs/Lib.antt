@@ -18,4 +18,5 @@ mod Places
 mod Removal
 mod Sharing
 mod Soundness
+mod Standing
 mod Steps

@@ -1,16 +1,13 @@
 -- What is always so of grants that are filed, where they stand and who shares them.
 use Rattle.std.specs.Prelude.{List}
-use Rattle.std.specs.BTreeMap.{BTreeMap}
 use Rattle.std.specs.List.{IsDistinct}
 use Rattle.std.specs.Map.{keys_of}
-use Rattle.registry_model.specs.Process.{Text}
 use Rattle.lock_table.specs.Filed.{Entry, is_key}
-use Rattle.lock_table.specs.Index.{IsIndexed}
+use Rattle.lock_table.specs.Index.{IsIndexed, Places}
 use Rattle.lock_table.specs.Sharers.{IsShared, Shared}
-use Rattle.lock_table.specs.declared.grant.Place.{Place}
 
 -- no key is there twice, each grant stands where its holder's do, and is counted on its resource
-pub record IsKept (es : List Entry) (by_holder : BTreeMap Place Text) (shared : Shared) : Type 0 where
+pub record IsKept (es : List Entry) (places : Places) (shared : Shared) : Type 0 where
   pub once : IsDistinct is_key (keys_of es)
-  pub placed : IsIndexed es by_holder
+  pub placed : IsIndexed es places
   pub counted : IsShared es shared

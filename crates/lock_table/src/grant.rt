@@ -26,14 +26,6 @@ pub(crate) struct KeptGrant {
     pub(crate) held: Held,
 }
 
-/// Where a grant stands among its holder's. Holders of one node stand together, and the grants of one holder, as their
-/// numbers rise.
-#[derive(Clone, Debug, PartialEq, Eq, PartialOrd, Ord, Drop)]
-pub(crate) struct Place {
-    pub(crate) holder: Pid,
-    pub(crate) number: u64,
-}
-
 impl Key {
     /// Where the grant of this id to this holder is filed, if there is one.
     pub(crate) fn of(id: &LockId, holder: &Pid) -> Key
@@ -89,18 +81,6 @@ impl KeptGrant {
         KeptGrant {
             key: self.key.copy(),
             held: self.held.copy(),
-        }
-    }
-}
-
-impl Place {
-    /// Where the holder's grant of this number stands, if there is one.
-    pub(crate) fn of(holder: &Pid, number: u64) -> Place
-        ensures { result ≡ record { holder = holder.now; number = number } }
-    {
-        Place {
-            holder: holder.copy(),
-            number,
         }
     }
 }

@@ -6,6 +6,7 @@ mod grants;
 mod laws;
 mod others;
 mod sharers;
+mod slots;
 mod table;
 mod verdict;
 

@@ -4,13 +4,12 @@ ghost use Rattle.std.specs.Option.{option_copied};
 ghost use Rattle.registry_model.specs.Process.{is_process};
 ghost use Rattle.lock_table.specs.Filed.{held_at};
 ghost use Rattle.lock_table.specs.Grants.{HasUnder, IsSomeOn, IsNoneOn, IsOpenTo, IsFreeFor, IsHeld, Recounts, Gains, Loses};
-ghost use Rattle.lock_table.specs.Index.{IsFirstFrom, IsNoneFrom};
 
-use crate::grant::{Held, Key, Place};
+use crate::grant::{Held, Key};
 use crate::sharers::{Shared, join, leave, other_requester};
+use crate::slots::{Places, Slot, first_from, put, take};
 use indexmap::IndexMap;
 use std::alloc::{AllocError, Global};
-use std::collections::BTreeMap;
 use std::marker::Model;
 use term::{Node, Pid, Requester, Resource};
 
@@ -21,7 +20,7 @@ pub(crate) struct OtherGrants {
     grants: IndexMap<Key, Held>,
     shared: Shared,
     /// The resource of each grant, where the grant stands among its holder's.
-    by_holder: BTreeMap<Place, Resource>,
+    by_holder: Places,
 }
 
 impl Model for OtherGrants {
@@ -33,19 +32,7 @@ impl Model for OtherGrants {
 
     ghost view = { λ t. t.grants.entries };
 
-    ghost invariant = { λ t. IsKept t.grants.entries t.by_holder t.shared.entries };
-}
-
-/// The key of the first grant that stands at a place or behind it.
-fn first_from(by_holder: &BTreeMap<Place, Resource>, from: &Place) -> Option<Key>
-    ensures some { IfSome result (IsFirstFrom by_holder.now from.now) }
-    ensures none { IfNone result (IsNoneFrom by_holder.now from.now) }
-{
-    let (place, resource) = by_holder.range(from..).next()?;
-    Some(Key {
-        resource: resource.copy(),
-        holder: place.holder.copy(),
-    })
+    ghost invariant = { λ t. IsKept t.grants.entries t.by_holder.entries t.shared.entries };
 }
 
 impl OtherGrants {
@@ -56,7 +43,7 @@ impl OtherGrants {
         OtherGrants {
             grants: IndexMap::new(alloc),
             shared: IndexMap::new(alloc),
-            by_holder: BTreeMap::new(alloc),
+            by_holder: IndexMap::new(alloc),
         }
     }
 
@@ -131,8 +118,7 @@ impl OtherGrants {
     {
         self.grants.reserve(1)?;
         self.shared.reserve(1)?;
-        let place = Place::of(&key.holder, number);
-        self.by_holder.insert(place, key.resource.copy())?;
+        put(&mut self.by_holder, &key.holder, number, &key.resource)?;
         join(&mut self.shared, &key.resource, &requester);
         let held = Held {
             requester,
@@ -148,7 +134,7 @@ impl OtherGrants {
         ensures { Loses key.now self.old self.new }
     {
         if let Some(held) = self.grants.swap_remove(key) {
-            self.by_holder.remove(&Place::of(&key.holder, held.number));
+            take(&mut self.by_holder, &key.holder, held.number);
             leave(&mut self.shared, &key.resource);
         }
     }
@@ -158,8 +144,12 @@ impl OtherGrants {
         ensures some { IfSome result (λ key. IsHeld key self.now × (key.holder ≡ holder.now)) }
         ensures none { IfNone result (All (λ e. is_process e.0.holder holder.now ≡ false) self.now) }
     {
-        let key = first_from(&self.by_holder, &Place::of(holder, 0))?;
-        if key.holder == *holder {
+        let from = Slot {
+            serial: holder.serial,
+            number: 0,
+        };
+        let key = first_from(&self.by_holder, &holder.node, &from)?;
+        if key.holder.serial == holder.serial {
             Some(key)
         } else {
             None
@@ -171,15 +161,10 @@ impl OtherGrants {
         ensures some { IfSome result (λ key. IsHeld key self.now × (key.holder.node ≡ node.now)) }
         ensures none { IfNone result (All (λ e. (e.0.holder.node == node.now) ≡ false) self.now) }
     {
-        let first = Pid {
-            node: node.copy(),
+        let from = Slot {
             serial: 0,
+            number: 0,
         };
-        let key = first_from(&self.by_holder, &Place::of(&first, 0))?;
-        if key.holder.node == *node {
-            Some(key)
-        } else {
-            None
-        }
+        first_from(&self.by_holder, node, &from)
     }
 }

@@ -9,7 +9,8 @@ use Rattle.registry_model.specs.Process.{at}
 use Rattle.registry_model.proofs.Updates.{by_test}
 use Rattle.protocol_model.specs.Round as protocol
 use Rattle.protocol_model.specs.Round.{asked_too, mark_down, owes, opens, has_granted, is_owes, is_out, is_refused, is_gone}
-use Rattle.term.specs.NodeSets.{IsNodeSet, set_of, most_nodes}
+use Rattle.term.specs.NodeSets.{IsNodeSet, set_of}
+use Rattle.term.specs.declared.limits.TheConstants.{MOST_NODES}
 use Rattle.boss_order.specs.Boss.{boss_of}
 use Rattle.boss_order.proofs.Sets.{greatest-set_of, is_empty-within}
 use Rattle.locker.specs.declared.mark.Mark.{Mark}
@@ -25,14 +26,14 @@ with_marks r f = record r { mark = f }
 
 -- a new round
 pub seen-begin : (nodes : List ℕ) → IsNodeSet nodes → 0 < length nodes → (n : ℕ) → All (λ c. c < n) nodes
-    → seen (record { nodes = nodes; marks = set (replicate most_nodes Later) (length nodes - 1) Owes })
+    → seen (record { nodes = nodes; marks = set (replicate MOST_NODES Later) (length nodes - 1) Owes })
     ≡ protocol.begin n (set_of nodes)
 seen-begin nodes is some n below =
     ap (λ (f : ℕ → protocol.Mark). record { boss = boss_of nodes; mark = f })
-    (mark_at-set nodes (replicate most_nodes Later) (boss_of nodes) (length nodes - 1) Owes is.fits
+    (mark_at-set nodes (replicate MOST_NODES Later) (boss_of nodes) (length nodes - 1) Owes is.fits
     (place-boss nodes is some)
     ∙ fun_ext (by_test (boss_of nodes)
-    (λ x b. (if b then protocol.Owes else mark_at (place x nodes) (replicate most_nodes Later))
+    (λ x b. (if b then protocol.Owes else mark_at (place x nodes) (replicate MOST_NODES Later))
     ≡ (if set_of nodes x then (if b then protocol.Owes else protocol.Later) else protocol.Out)) here there))
     ∙ ap by_boss (sym (greatest-set_of n nodes is.rising below))
   where
@@ -48,12 +49,12 @@ seen-begin nodes is some n below =
         (sym (set_of-place (boss_of nodes) nodes ∙ ap is_some (place-boss nodes is some)))
 
     later : (x : ℕ) (p : Option ℕ) → place x nodes ≡ p
-        → mark_at p (replicate most_nodes Later) ≡ (if is_some p then protocol.Later else protocol.Out)
+        → mark_at p (replicate MOST_NODES Later) ≡ (if is_some p then protocol.Later else protocol.Out)
     later x None e = refl
     later x (Some i) e = ap as_mark
-        (get_or-replicate most_nodes i Later Gone (omega (arith, is.fits, (place-Some x nodes i e).0)))
+        (get_or-replicate MOST_NODES i Later Gone (omega (arith, is.fits, (place-Some x nodes i e).0)))
 
-    there : (x : ℕ) → (x ≡ boss_of nodes → ⊥) → mark_at (place x nodes) (replicate most_nodes Later)
+    there : (x : ℕ) → (x ≡ boss_of nodes → ⊥) → mark_at (place x nodes) (replicate MOST_NODES Later)
         ≡ (if set_of nodes x then protocol.Later else protocol.Out)
     there x ne = later x (place x nodes) refl
         ∙ ap (λ (b : Bool). if b then protocol.Later else protocol.Out) (sym (set_of-place x nodes))

@@ -3,7 +3,8 @@ use Rattle.std.specs.Prelude.{ℕ, Bool, not, ◌==◌, ◌≡◌, ◌<◌, ◌&
 use Rattle.std.specs.List.{position, list_any}
 use Rattle.protocol_model.specs.Round as protocol
 use Rattle.protocol_model.specs.Round.{is_refused, is_gone, has_granted, owes}
-use Rattle.term.specs.NodeSets.{IsNodeSet, most_nodes}
+use Rattle.term.specs.NodeSets.{IsNodeSet}
+use Rattle.term.specs.declared.limits.TheConstants.{MOST_NODES}
 use Rattle.boss_order.specs.Boss.{boss_of}
 use Rattle.locker.specs.declared.mark.Mark.{Mark}
 use Rattle.locker.specs.declared.mark.Mark.TheVariants.{Later, Owes, Granted, Refused, Lost, Gone}
@@ -18,7 +19,7 @@ pub record Held : Type 0 where
 pub record IsRound (h : Held) : Type 0 where
   pub set : IsNodeSet h.nodes
   pub some : 0 < length h.nodes
-  pub room : length h.marks ≡ most_nodes
+  pub room : length h.marks ≡ MOST_NODES
 
 -- the protocol's mark
 abbrev pub as_mark : Mark → protocol.Mark

@@ -1,5 +1,5 @@
 -- What a loop owes its readers is taken, and the moment at which it stands then may be written down.
-use Rattle.std.proofs.Common.{◌≡◌, ℕ, false, List, [], ◌∷◌, ◌++◌, Some, None, refl, ap, sym, ◌∙◌, subst, inl, inr, arith}
+use Rattle.std.proofs.Common.{◌≡◌, ◌<◌, ℕ, false, List, [], ◌∷◌, ◌++◌, Some, None, refl, ap, sym, ◌∙◌, subst, inl, inr, arith}
 use Rattle.node_loop.specs.declared.edit.Edition.{Edition}
 use Rattle.node_loop.specs.declared.edit.Note.{Note}
 use Rattle.node_loop.specs.declared.edit.Note.TheVariants.{Nothing, Whole}

@@ -23,7 +23,8 @@ use Rattle.protocol_model.specs.Calling.{die, kill}
 use Rattle.protocol_model.specs.Reading.{with_member, noted, admitted, joined_with, welcomed, welcome}
 use Rattle.protocol_model.specs.Deciding.{admit, held}
 use Rattle.protocol_model.specs.Registrar.{finish}
-use Rattle.term.specs.NodeSets.{IsNodeSet, set_of, with_older, with_node as and_node, most_nodes}
+use Rattle.term.specs.NodeSets.{IsNodeSet, set_of, with_older, with_node as and_node}
+use Rattle.term.specs.declared.limits.TheConstants.{MOST_NODES}
 use Rattle.term.proofs.Older.{held as is_held}
 use Rattle.term.proofs.NodeSets.{set_of-with_node}
 use Rattle.term.proofs.NodeLists.{rising-with_node}
@@ -33,7 +34,7 @@ use Rattle.lock_calls.specs.Held.{Held as LockCalls, seen}
 use Rattle.transaction.specs.declared.op.Op.{Op}
 use Rattle.transaction.specs.Ops.{op_of}
 use Rattle.transaction.specs.Work.{Work}
-use Rattle.notice_lists.specs.Lists.{list_under}
+use Rattle.exchange.specs.Lists.{list_under}
 use Rattle.exchange.specs.Bodies.{settled_in, fate_in}
 use Rattle.exchange.specs.declared.bodies.Admission.{Admission}
 use Rattle.exchange.specs.declared.bodies.Welcome.{Welcome}
@@ -425,7 +426,7 @@ admits h h1 h2 h3 h4 k t u x f d body M P R N K to sending =
 
 -- there is room for a node of the world beside others of it
 pub room_for : (world members : List ℕ) (j : ℕ) → IsNodeSet world → IsNodeSet members → AreOf world members
-    → set_of world j ≡ true → length (and_node members j) ≤ most_nodes
+    → set_of world j ≡ true → length (and_node members j) ≤ MOST_NODES
 room_for world members j set rest within of =
     omega (
       arith,

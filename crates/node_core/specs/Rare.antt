@@ -1,5 +1,6 @@
 -- What few steps do, and what a step makes at most.
-use Rattle.std.specs.Prelude.{ℕ, Bool, true, false, ◌||◌, ◌+◌, ◌≤◌, Option, Some, List, length, if◌then◌else◌}
+use Rattle.std.specs.Prelude.{ℕ, Bool, true, false, ◌||◌, ◌+◌, ◌*◌, ◌≤◌, Option, Some, List, length, if◌then◌else◌}
+use Rattle.term.specs.declared.limits.TheConstants.{MOST_NODES}
 use Rattle.transaction.specs.declared.op.Op.{Op}
 use Rattle.transaction.specs.declared.op.Op.TheVariants.{Admission}
 use Rattle.transaction.specs.Work.{begins_with_join}
@@ -63,8 +64,8 @@ pub record Adds (e a : ℕ) (t u : Made) : Type 0 where
 
 -- there is room for what is made of the letter, but for one that moves many names, and for a letter more
 abbrev pub HasRoomToRead : Letter → Made → Type 0
-HasRoomToRead (LockAnswer id p granted) m = HasRoom 18 1 1 m
-HasRoomToRead Applied m = HasRoom 9 1 1 m
+HasRoomToRead (LockAnswer id p granted) m = HasRoom (2 * MOST_NODES + 2) 1 1 m
+HasRoomToRead Applied m = HasRoom (MOST_NODES + 1) 1 1 m
 HasRoomToRead (GivenBack p) m = HasRoom 1 0 1 m
 HasRoomToRead JoinRefused m = HasRoom 1 0 1 m
 HasRoomToRead (JoinAsk pairs) m = HasRoom 2 1 0 m
@@ -77,5 +78,5 @@ HasRoomToCall (Whereis x) m = HasRoom 1 1 1 m
 HasRoomToCall RegisteredNames m = HasRoom 1 1 1 m
 HasRoomToCall (Notices p) m = HasRoom 1 1 1 m
 HasRoomToCall (SetLock p id nodes retries) m = HasRoom 2 0 1 m
-HasRoomToCall (DelLock p id nodes) m = HasRoom 9 0 1 m
+HasRoomToCall (DelLock p id nodes) m = HasRoom (MOST_NODES + 1) 0 1 m
 HasRoomToCall _ m = HasRoom 1 0 0 m

@@ -14,7 +14,7 @@ use Rattle.node_core.specs.declared.node.Phase.{Phase}
 use Rattle.node_core.specs.declared.node.Phase.TheVariants.{Asking, Waiting, Writing, Joining}
 use Rattle.node_events.specs.Letters.{send_of}
 use Rattle.node_events.specs.Made.{Made}
-use Rattle.notice_lists.specs.Lists.{list_under}
+use Rattle.exchange.specs.Lists.{list_under}
 use Rattle.node_core.specs.Held.{Held}
 use Rattle.node_events.specs.Seen.{reply_of, answer_of, entry_by, entry_of}
 

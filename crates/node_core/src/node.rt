@@ -12,16 +12,16 @@ mod rounds;
 mod stepping;
 
 use crate::cause::Cause;
+use exchange::NoticeLists;
 use exit_watch::Watch;
 use lock_calls::LockCalls;
 use lock_table::LockTable;
 use locker::Round;
 use name_table::Names;
 use node_events::{Call, Letter, Reply, StepFault, Turn};
-use notice_lists::NoticeLists;
 use std::alloc::{AllocError, Global};
 use std::marker::Model;
-use term::{Node, NodeSet, Pid};
+use term::{MOST_NODES, Node, NodeSet, Pid};
 use transaction::{Op, Registrar};
 
 /// Where the current operation stands. Where there is none, this says nothing.
@@ -273,7 +273,7 @@ impl<N: Names<Memory = Global>> NodeCore<N> {
             Cause::Retry => self.retry(turn)?,
             Cause::Exit(process) => self.exit(turn, process)?,
             Cause::Leave => {
-                turn.reserve(8, 1, 0)?;
+                turn.reserve(MOST_NODES, 1, 0)?;
                 self.leave(turn);
                 return Ok(());
             }

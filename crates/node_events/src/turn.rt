@@ -1,5 +1,6 @@
 //! What one step has made so far.
 ghost use Rattle.std.specs.Prelude.{◌≡◌, false, OnOk, OnErr};
+ghost use Rattle.term.specs.declared.limits.TheConstants.{MOST_NODES};
 
 use crate::events::{Answer, Entry, Letter};
 use std::alloc::{AllocError, Global};
@@ -88,10 +89,10 @@ impl Turn {
 
     /// A letter without lists to each of these nodes, in their order. It takes no memory, since there is room.
     pub fn send_all(&mut self, nodes: &NodeSet, letter: &Letter)
-        requires room { HasRoom 8 0 0 self.old }
+        requires room { HasRoom MOST_NODES 0 0 self.old }
         requires plain { has_lists letter.now ≡ false }
         ensures letters { SendsAll nodes.now letter.now self.old self.new }
-        ensures spends { Spends 8 0 0 self.old self.new }
+        ensures spends { Spends MOST_NODES 0 0 self.old self.new }
         ensures set { IsNodeSet nodes.now }
     {
         for node in nodes.as_slice() {
@@ -105,10 +106,10 @@ impl Turn {
     /// A copy of a letter that may have lists to each of these nodes, in their order. Where memory is refused the first of them
     /// have theirs.
     pub fn send_copies(&mut self, nodes: &NodeSet, letter: &Letter) -> Result<(), AllocError>
-        requires { HasRoom 8 0 0 self.old }
+        requires { HasRoom MOST_NODES 0 0 self.old }
         ensures letters { OnOk result (SendsAll nodes.now letter.now self.old self.new) }
         ensures some { OnErr result (SendsSome nodes.now letter.now self.old self.new) }
-        ensures spends { Spends 8 0 0 self.old self.new }
+        ensures spends { Spends MOST_NODES 0 0 self.old self.new }
         ensures set { IsNodeSet nodes.now }
     {
         for node in nodes.as_slice() {

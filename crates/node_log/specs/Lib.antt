@@ -5,6 +5,8 @@ pub use Rattle.world_events.specs.NodeCoreMade
 pub use Rattle.world_events.specs.NodeCoreSeen
 pub use Rattle.world_events.specs.NodeCoreSteps
 pub use Rattle.world_events.specs.NodeEventsSeen
+pub use Rattle.world_events.specs.NodeEvents
+pub use Rattle.world_events.specs.NodeEventsLetters
 pub use Rattle.world_events.specs.Openings
 pub mod Entries
 pub mod Forgotten

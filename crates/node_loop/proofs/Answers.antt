@@ -21,10 +21,10 @@ use Rattle.node_loop.specs.Desks.{Kept, Begins, addressee, answered, all_answere
 use Rattle.node_loop.specs.Held.{Looping, Written}
 use Rattle.node_loop.specs.Steps.{Cause, stamp_of, entry_of, desk_of, Makes, Rests, Begun}
 use Rattle.node_loop.specs.Items.{by_leave, Departs}
-use Rattle.node_loop.specs.Coming.{HandsOut, HandsOver, IsLoopOf}
-use Rattle.node_loop.specs.Answers.{LogsAnswer, told_answer, AnswersAreLogged}
+use Rattle.node_loop.specs.Coming.{HandsOut, HandsOver, IsLoopOf, IsLoopFrom}
+use Rattle.node_loop.specs.Answers.{LogsAnswer, told_answer, AnswersAreLogged, AnswersAreLoggedFrom}
 use Rattle.node_loop.proofs.Moving.{IsKept}
-use Rattle.node_loop.proofs.Coming.{IsOfLoops, of_loop}
+use Rattle.node_loop.proofs.Coming.{IsOfLoops, of_loop, of_loop_from}
 
 -- the log has the answer that this outcome tells, if it tells one
 abbrev Says : Written → Result Came TaskFault → Type 0
@@ -170,17 +170,30 @@ of_loops = record {
   kept = kept;
   hands_out = hands_out;
   hands_over = hands_over;
+  replaces = λ older next a h. h;
 }
 
-module _ (name : ℕ) (b : Looping) (is : IsLoopOf name b) where
-  logs : Logs b
-  logs = of_loop Logs of_loops name b is
+-- where the next reply tells it
+next_logged : (b : Looping) → Logs b → (t : Ticket) (stamp : ℕ) (answer : AnyAnswer) (later : List Told)
+    → b.desk.replies ≡ told_answer t stamp answer ∷ later → LogsAnswer b.log stamp answer
+next_logged b logs t stamp answer later e =
+    All-head (IsLogged b.log) (told_answer t stamp answer) later (subst (All (IsLogged b.log)) e logs)
 
-  -- where the next reply tells it
-  pub next_is_logged : (t : Ticket) (stamp : ℕ) (answer : AnyAnswer) (later : List Told) → b.desk.replies ≡ told_answer t stamp answer ∷ later
-      → LogsAnswer b.log stamp answer
-  next_is_logged t stamp answer later e =
-      All-head (IsLogged b.log) (told_answer t stamp answer) later (subst (All (IsLogged b.log)) e logs)
+pub next_is_logged : (name : ℕ) (b : Looping) → IsLoopOf name b → (t : Ticket) (stamp : ℕ) (answer : AnyAnswer) (later : List Told)
+    → b.desk.replies ≡ told_answer t stamp answer ∷ later → LogsAnswer b.log stamp answer
+next_is_logged name b is = next_logged b (of_loop Logs of_loops name b is)
+
+pub next_is_logged_from : (start : ℕ) (core : Held) (b : Looping) → IsLoopFrom start core b → (t : Ticket) (stamp : ℕ) (answer : AnyAnswer)
+    (later : List Told) → b.desk.replies ≡ told_answer t stamp answer ∷ later → LogsAnswer b.log stamp answer
+next_is_logged_from start core b is = next_logged b (of_loop_from Logs of_loops start core b is)
+
+-- where any does
+some_logged : (b : Looping) → Logs b → (t : Ticket) (stamp : ℕ) (answer : AnyAnswer) → Contains b.desk.replies (told_answer t stamp answer)
+    → LogsAnswer b.log stamp answer
+some_logged b logs t stamp answer c = All-contains (IsLogged b.log) b.desk.replies (told_answer t stamp answer) logs c
 
 pub told_answers_are_logged : AnswersAreLogged
-told_answers_are_logged name b is t stamp answer c = All-contains (IsLogged b.log) b.desk.replies (told_answer t stamp answer) (logs name b is) c
+told_answers_are_logged name b is = some_logged b (of_loop Logs of_loops name b is)
+
+pub told_answers_are_logged_from : AnswersAreLoggedFrom
+told_answers_are_logged_from start core b is = some_logged b (of_loop_from Logs of_loops start core b is)

@@ -18,11 +18,11 @@ use Rattle.node_loop.specs.Sound.{IsNodeOf, opened, BeginsSound, EndsSound, Tell
 use Rattle.node_loop.proofs.Standing.{ends_still}
 
 -- nothing waits in a new tray
-receivers_of : (world : List ℕ) → receivers (map none_for world) ≡ world
+pub receivers_of : (world : List ℕ) → receivers (map none_for world) ≡ world
 receivers_of [] = refl
 receivers_of (c ∷ cs) = ap (λ (l : List ℕ). c ∷ l) (receivers_of cs)
 
-nothing_waits : (t : ℕ) (world : List ℕ) → waiting_for t (map none_for world) ≡ []
+pub nothing_waits : (t : ℕ) (world : List ℕ) → waiting_for t (map none_for world) ≡ []
 nothing_waits t [] = refl
 nothing_waits t (c ∷ cs) = go (c == t) (nothing_waits t cs)
   where

@@ -17,11 +17,11 @@ use Rattle.term.specs.NodeSets.{set_of, with_older}
 use Rattle.term.proofs.Older.{held}
 use Rattle.node_log.specs.declared.Call.{Call as ClientCall}
 use Rattle.node_log.specs.declared.Call.TheVariants.{Spawn, Whereis, RegisteredNames, Notices, Register, ReRegister, Unregister, SetLock, DelLock, Join as JoinBy}
-use Rattle.node_events.specs.declared.events.Event.TheVariants.{FromPeer}
+use Rattle.node_log.specs.NodeEvents.TheVariants.{FromPeer}
 use Rattle.node_log.specs.declared.Event.{Event}
 use Rattle.node_log.specs.declared.Event.TheVariants.{Call, Retry, Exit, Leave}
 use Rattle.node_log.specs.declared.Letter.{Letter}
-use Rattle.node_events.specs.Letters.{letter_of, send_of}
+use Rattle.node_log.specs.NodeEventsLetters.{letter_of, send_of}
 use Rattle.node_log.specs.NodeEventsSeen.{answer_of, unnumbered}
 use Rattle.node_log.specs.NodeCoreHeld.{Held, bound_of}
 use Rattle.node_log.specs.NodeCoreMade.{Made as Turn}
@@ -51,7 +51,7 @@ says world alone a c (s ∷ ss) h = go (cases_eq s.0 c) (says world alone a c ss
     go (inr ne) rest = rw (ne_eqb s.0 c ne) rest
 
 -- a call's contact, if it has one, has started
-asks : (nodes : List ℕ) (c : ClientCall) → knows_contact nodes (Call c) ≡ true → IsAskedWithin nodes c
+pub asks : (nodes : List ℕ) (c : ClientCall) → knows_contact nodes (Call c) ≡ true → IsAskedWithin nodes c
 asks nodes Spawn known = tt
 asks nodes (Whereis x) known = tt
 asks nodes RegisteredNames known = tt

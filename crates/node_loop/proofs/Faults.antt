@@ -4,7 +4,7 @@ use Rattle.node_log.specs.declared.StepFault.{StepFault}
 use Rattle.node_log.specs.NodeEventsSeen.{fault_of, is_memory}
 use Rattle.protocol_model.specs.Event.{first_cause, cause, can_retry}
 use Rattle.protocol_model.specs.Event.{Refusal as AnyRefusal}
-use Rattle.node_events.specs.declared.events.Event.TheVariants.{Retry}
+use Rattle.node_log.specs.NodeEvents.TheVariants.{Retry}
 use Rattle.node_log.specs.NodeCoreSeen.{node_of}
 use Rattle.node_log.specs.NodeCoreSteps.{refusal_of}
 use Rattle.node_log.proofs.Faults.{only_memory}

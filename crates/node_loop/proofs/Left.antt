@@ -1,6 +1,6 @@
 -- Where the owner of a leave is told that the node has left, the node's log has its leave: a loop's moves keep it so.
 use Rattle.std.proofs.Common.{◌≡◌, ℕ, Bool, true, false, Option, Some, None, Ok, Err, List, [], ◌∷◌, ◌++◌, map, flat_map, refl, sym, ap, subst, ◌∙◌, eq-eqb}
-use Rattle.std.specs.Prelude.{Result, if◌then◌else◌, ◌||◌}
+use Rattle.std.specs.Prelude.{Result, Contains, if◌then◌else◌, ◌||◌}
 use Rattle.std.specs.List.{list_any}
 use Rattle.std.proofs.lemmas.Bool.{and_from, or_from, or_left, or_right, false≢true}
 use Rattle.std.proofs.lemmas.List.Folds.{list_any-append, list_any_at}
@@ -23,8 +23,8 @@ use Rattle.node_loop.specs.Steps.{Cause, stamp_of, entry_of, desk_of, Makes, Res
 use Rattle.node_loop.specs.Items.{by_leave, Departs}
 use Rattle.node_loop.specs.Coming.{HandsOut, HandsOver, IsLoopOf}
 use Rattle.node_loop.proofs.Moving.{IsKept}
-use Rattle.node_loop.proofs.Coming.{IsOfLoops, of_loop}
-use Rattle.node_loop.specs.Left.{is_leave_of, logs_leave, told_left, LeavesAreLogged}
+use Rattle.node_loop.proofs.Coming.{IsOfLoops, of_loop, of_loop_from}
+use Rattle.node_loop.specs.Left.{is_leave_of, logs_leave, told_left, LeavesAreLogged, LeavesAreLoggedFrom}
 
 -- by this outcome the node has left
 abbrev says_left : Result Came TaskFault → Bool
@@ -184,6 +184,7 @@ of_loops = record {
   kept = kept;
   hands_out = hands_out;
   hands_over = hands_over;
+  replaces = λ older next a h. record { named = h.named; leave = h.leave };
 }
 
 module _ (name : ℕ) (b : Looping) (is : IsLoopOf name b) where
@@ -194,6 +195,12 @@ module _ (name : ℕ) (b : Looping) (is : IsLoopOf name b) where
   pub next_is_logged : (t : Ticket) (later : List Told) → b.desk.replies ≡ told_left t ∷ later → logs_leave b.log ≡ true
   next_is_logged t later e = logs.leave (ap (λ (l : List Told). some_left l) e)
 
+-- where any does
+some_logged : (b : Looping) → Logs b → (t : Ticket) → Contains b.desk.replies (told_left t) → logs_leave b.log ≡ true
+some_logged b logs t c = logs.leave (list_any_at tells_left b.desk.replies c.0 (told_left t) c.1 (ap tells_left c.2))
+
 pub told_leaves_are_logged : LeavesAreLogged
-told_leaves_are_logged name b is t c =
-    (logs name b is).leave (list_any_at tells_left b.desk.replies c.0 (told_left t) c.1 (ap tells_left c.2))
+told_leaves_are_logged name b is = some_logged b (logs name b is)
+
+pub told_leaves_are_logged_from : LeavesAreLoggedFrom
+told_leaves_are_logged_from start core b is = some_logged b (of_loop_from Logs of_loops start core b is)

@@ -17,14 +17,14 @@ use Rattle.term.proofs.Older.{held}
 use Rattle.node_log.specs.declared.Event.{Event}
 use Rattle.node_log.specs.declared.Event.TheVariants as event
 use Rattle.node_log.specs.declared.Answer.{Answer}
-use Rattle.node_events.specs.declared.events.Event.TheVariants.{FromPeer}
+use Rattle.node_log.specs.NodeEvents.TheVariants.{FromPeer}
 use Rattle.node_log.specs.declared.Letter.{Letter}
 use Rattle.node_log.specs.declared.Letter.TheVariants.{SetLock, LockAnswer, GiveBack, GivenBack, ReleaseOf, Apply, Applied, JoinAsk, JoinRefused, Admit, Welcome, Down}
 use Rattle.node_log.specs.NodeCoreHeld.{Held, bound_of}
 use Rattle.node_log.specs.NodeCoreMade.{Made as Turn}
 use Rattle.node_log.specs.NodeCoreSeen.{node_of}
 use Rattle.node_log.specs.NodeCoreSteps.{Steps, IsSaidBy}
-use Rattle.node_events.specs.Letters.{letter_of}
+use Rattle.node_log.specs.NodeEventsLetters.{letter_of}
 use Rattle.node_log.specs.Entries.{Entry}
 use Rattle.node_log.specs.Events.{node_event, own_event_of, knows_contact}
 use Rattle.node_loop.specs.declared.edit.Edit.TheVariants as edit
@@ -34,7 +34,7 @@ use Rattle.node_loop.specs.declared.edit.Note.TheVariants.{Nothing, One, Whole}
 use Rattle.node_loop.specs.declared.edit.Owed.{Owed}
 use Rattle.node_loop.specs.Editions.{edited, Does, showing, suits, NotedBy, Notes}
 use Rattle.node_loop.specs.Owing.{first_note, with_note, shown_by, LeadsTo, Owes, KeepsOwing}
-use Rattle.node_loop.specs.Held.{Looping, Written}
+use Rattle.node_loop.specs.Held.{Looping, Written, with_next}
 use Rattle.node_loop.specs.declared.item.Ticket.{Ticket}
 use Rattle.node_loop.specs.declared.item.Stamped.{Stamped}
 use Rattle.node_loop.specs.Steps.{Cause, by_event, by_letter, entry_of, IsNoted, Makes, Rests}
@@ -308,3 +308,7 @@ kept e = record {
 
 pub turns_keep : (a b : Looping) → Turns a b → KeepsOwing a b
 turns_keep a b T e O = turns (λ x. Owes x e) (kept e) a b O T
+
+-- that the next node of a name has started changes nothing of that
+pub owes_next : (older next : ℕ) (a : Looping) (e : Edition) → Owes a e → Owes (with_next older next a) e
+owes_next older next a e h = record { world = refl; length = h.length; leads = h.leads }

@@ -49,7 +49,7 @@ played_by : (o : Opening) (m n : ℕ) (letters : ℕ → List StampedLetter) (ds
 played_by o m n letters ds e h =
     subst (λ (x : ℕ). Plays (DoesIfFit (IsSaid (in_world o))) o x letters (opening_node (in_cluster o) x) ds) (sym e) h
 
-logged_more : (course : List Made) (es fs : List Entry) (m : Made) (e : Entry) → map (λ x. x.entry) course ≡ map seen_entry es
+pub logged_more : (course : List Made) (es fs : List Entry) (m : Made) (e : Entry) → map (λ x. x.entry) course ≡ map seen_entry es
     → m.entry ≡ seen_entry e → fs ≡ es ++ e ∷ [] → map (λ x. x.entry) (course ++ m ∷ []) ≡ map seen_entry fs
 logged_more course es fs m e same one more =
     map-append (λ (x : Made). x.entry) course (m ∷ [])

@@ -10,7 +10,7 @@ use Rattle.protocol_model.specs.Turn.{Send, sent_to}
 use Rattle.closings.specs.Alone.{Stamped as StampedLetter, stamped}
 use Rattle.term.specs.NodeSets.{set_of}
 use Rattle.node_log.specs.declared.Letter.{Letter}
-use Rattle.node_events.specs.Letters.{send_of}
+use Rattle.node_log.specs.NodeEventsLetters.{send_of}
 use Rattle.tray.specs.Held.{Waiting, longer, longer_at, with_letter}
 use Rattle.node_loop.specs.declared.item.Item.{Item}
 use Rattle.node_loop.specs.declared.item.Item.TheVariants.{Letter as LetterItem}

@@ -3,10 +3,11 @@ use Rattle.std.specs.Prelude.{ℕ, ◌≡◌, Contains, map, Ok}
 use Rattle.protocol_model.specs.Event.{Answer as AnyAnswer}
 use Rattle.node_log.specs.Entries.{Entry}
 use Rattle.node_log.specs.NodeEventsSeen.{answer_of}
+use Rattle.node_log.specs.NodeCoreHeld.{Held}
 use Rattle.node_loop.specs.declared.item.Ticket.{Ticket}
 use Rattle.node_loop.specs.Told.{Told, Answered}
 use Rattle.node_loop.specs.Held.{Looping, Written}
-use Rattle.node_loop.specs.Coming.{IsLoopOf}
+use Rattle.node_loop.specs.Coming.{IsLoopOf, IsLoopFrom}
 
 -- some step of the log has this stamp, and gives this answer
 pub record LogsAnswer (log : Written) (stamp : ℕ) (answer : AnyAnswer) : Type 0 where
@@ -22,4 +23,9 @@ told_answer t stamp answer = record { ticket = t; outcome = Ok (Answered stamp a
 -- where the loop of a node holds such a reply, its log has that step
 abbrev pub AnswersAreLogged : Type 0
 AnswersAreLogged = (name : ℕ) (b : Looping) → IsLoopOf name b → (t : Ticket) (stamp : ℕ) (answer : AnyAnswer)
+    → Contains b.desk.replies (told_answer t stamp answer) → LogsAnswer b.log stamp answer
+
+-- and where nodes come back, whatever a node began with
+abbrev pub AnswersAreLoggedFrom : Type 0
+AnswersAreLoggedFrom = (start : ℕ) (core : Held) (b : Looping) → IsLoopFrom start core b → (t : Ticket) (stamp : ℕ) (answer : AnyAnswer)
     → Contains b.desk.replies (told_answer t stamp answer) → LogsAnswer b.log stamp answer

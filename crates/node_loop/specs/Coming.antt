@@ -6,7 +6,7 @@ use Rattle.tray.specs.Held.{Waiting, none_for}
 use Rattle.node_loop.specs.declared.item.Item.{Item}
 use Rattle.node_loop.specs.Told.{Told}
 use Rattle.node_loop.specs.Desks.{empty_desk}
-use Rattle.node_loop.specs.Held.{Looping}
+use Rattle.node_loop.specs.Held.{Looping, with_next}
 use Rattle.node_loop.specs.Owing.{nothing_owed}
 use Rattle.node_loop.specs.Steps.{Outcome}
 use Rattle.node_loop.specs.Items.{Works, Idles}
@@ -55,3 +55,17 @@ pub record IsLoopOf (name : ℕ) (b : Looping) : Type 0 where
   pub stamp : ℕ  -- at its beginning
   pub moves : ℕ
   pub comes : ComesBy moves stamp (opening_core nodes cluster name) b
+
+-- the next node of a name took the place of the one before it
+abbrev pub Replaces : Looping → Looping → Type 0
+Replaces a b = (older : ℕ) × (next : ℕ) × (b ≡ with_next older next a)
+
+-- the same where nodes come back
+abbrev pub ComesFrom : ℕ → ℕ → Held → Looping → Type 0
+ComesFrom zero stamp core b = b ≡ begun stamp core
+ComesFrom (suc n) stamp core b = (a : Looping) × ComesFrom n stamp core a × (Turns a b ⊎ HandsOut a b ⊎ HandsOver a b ⊎ Replaces a b)
+
+-- it is the loop of the node that began with this core, behind this stamp
+pub record IsLoopFrom (stamp : ℕ) (core : Held) (b : Looping) : Type 0 where
+  pub moves : ℕ
+  pub comes : ComesFrom moves stamp core b

@@ -3,7 +3,7 @@ use Rattle.std.specs.Prelude.{ℕ, Bool, true, ◌≡◌, ◌==◌, List, [], �
 use Rattle.registry_model.specs.Process.{at}
 use Rattle.protocol_model.specs.World.{Opening, in_world}
 use Rattle.closings.specs.Alone.{Stamped as StampedLetter}
-use Rattle.node_events.specs.Letters.{letter_of}
+use Rattle.node_log.specs.NodeEventsLetters.{letter_of}
 use Rattle.tray.specs.Held.{Waiting}
 use Rattle.node_loop.specs.declared.item.Item.{Item}
 use Rattle.node_loop.specs.declared.item.Item.TheVariants.{Letter, Task}

@@ -3,8 +3,8 @@ use Rattle.std.specs.Prelude.{ℕ, Bool, true, false, not, ◌==◌, ◌&&◌, �
 use Rattle.registry_model.specs.Table.{Table, changed, without, put_all}
 use Rattle.name_table.specs.Changes.{change_of}
 use Rattle.term.specs.NodeSets.{set_of}
-use Rattle.node_events.specs.declared.events.Event.{Event as NodeEvent}
-use Rattle.node_events.specs.declared.events.Event.TheVariants as event
+use Rattle.node_log.specs.NodeEvents.{Event as NodeEvent}
+use Rattle.node_log.specs.NodeEvents.TheVariants as event
 use Rattle.node_log.specs.declared.Letter.{Letter}
 use Rattle.node_log.specs.declared.Letter.TheVariants.{Apply, JoinAsk, Admit, Welcome, Down}
 use Rattle.node_log.specs.NodeCoreHeld.{Held}

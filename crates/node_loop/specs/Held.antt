@@ -7,7 +7,8 @@ use Rattle.protocol_model.specs.Event.{can_retry}
 use Rattle.node_log.specs.declared.Letter.{Letter}
 use Rattle.node_log.specs.NodeCoreHeld.{Held}
 use Rattle.node_log.specs.NodeCoreSeen.{node_of}
-use Rattle.tray.specs.Held.{Waiting, with_letter}
+use Rattle.tray.specs.Held.{Waiting, with_letter, renewed}
+use Rattle.term.specs.NodeSets.{succeeded}
 use Rattle.node_log.specs.Entries.{Entry, Logged}
 use Rattle.node_loop.specs.declared.item.Item.{Item}
 use Rattle.node_loop.specs.declared.item.Item.TheVariants.{Letter as LetterItem}
@@ -34,6 +35,14 @@ pub record Looping : Type 0 where
   pub left : Bool
   pub worked : Bool  -- the last turn took an item or tried a step
 
+-- the next node of a name takes the place of the one before it, in the world and in the tray: no letter waits for it
+abbrev pub with_next : ℕ → ℕ → Looping → Looping
+with_next older next a = record a {
+  core = record a.core { world = succeeded older next a.core.world };
+  world = succeeded older next a.core.world;
+  tray = renewed older next a.tray;
+}
+
 -- a refused round waits to be tried again
 abbrev pub has_retry : Looping → Bool
 has_retry l = not l.left && can_retry (node_of l.core)
@@ -41,10 +50,6 @@ has_retry l = not l.left && can_retry (node_of l.core)
 -- and gives way to rivals no longer
 abbrev pub is_due : Looping → Bool
 is_due l = has_retry l && (l.wait == 0)
-
--- it gives way for so many turns that read no letter at most
-abbrev pub most_turns : ℕ
-most_turns = 1024
 
 -- a leave waits
 abbrev pub has_leave : Looping → Bool

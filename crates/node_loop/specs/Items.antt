@@ -19,7 +19,8 @@ use Rattle.node_loop.specs.declared.edit.Note.TheVariants.{One}
 use Rattle.node_loop.specs.declared.edit.Owed.{Owed}
 use Rattle.node_loop.specs.Owing.{with_note}
 use Rattle.node_loop.specs.Desks.{left_by}
-use Rattle.node_loop.specs.Held.{Looping, is_due, most_turns, is_free_to_leave, can_step}
+use Rattle.node_loop.specs.Held.{Looping, is_due, is_free_to_leave, can_step}
+use Rattle.term.specs.declared.limits.TheConstants.{MOST_TURNS}
 use Rattle.node_loop.specs.Steps.{Cause, by_event, by_letter, desk_of, Makes, Outcome, Ends, Goes}
 
 -- a letter is read, but by a node that has left
@@ -101,7 +102,7 @@ Waits a r b =
 
 -- by a letter a refused round may get another time to wait, and by a task it doesn't
 abbrev pub Hears : Item → Looping → Looping → Type 0
-Hears (item.Letter l) a b = (b ≡ record a { wait = b.wait }) × (b.wait ≤ most_turns)
+Hears (item.Letter l) a b = (b ≡ record a { wait = b.wait }) × (b.wait ≤ MOST_TURNS)
 Hears (item.Task t) a b = b ≡ a
 
 -- it is a task

@@ -4,10 +4,11 @@ use Rattle.std.specs.List.{list_any}
 use Rattle.node_log.specs.declared.WorldEvent.{WorldEvent}
 use Rattle.node_log.specs.declared.WorldEvent.TheVariants.{At, Deliver, Restart}
 use Rattle.node_log.specs.Events.{is_leave}
+use Rattle.node_log.specs.NodeCoreHeld.{Held}
 use Rattle.node_loop.specs.declared.item.Ticket.{Ticket}
 use Rattle.node_loop.specs.Told.{Told, Left}
 use Rattle.node_loop.specs.Held.{Looping, Written}
-use Rattle.node_loop.specs.Coming.{IsLoopOf}
+use Rattle.node_loop.specs.Coming.{IsLoopOf, IsLoopFrom}
 
 -- this node leaves
 abbrev pub is_leave_of : ℕ → WorldEvent → Bool
@@ -26,4 +27,9 @@ told_left t = record { ticket = t; outcome = Ok Left }
 -- where the loop of a node holds such a reply, its log has the leave
 abbrev pub LeavesAreLogged : Type 0
 LeavesAreLogged = (name : ℕ) (b : Looping) → IsLoopOf name b → (t : Ticket) → Contains b.desk.replies (told_left t)
+    → logs_leave b.log ≡ true
+
+-- and where nodes come back, whatever a node began with
+abbrev pub LeavesAreLoggedFrom : Type 0
+LeavesAreLoggedFrom = (start : ℕ) (core : Held) (b : Looping) → IsLoopFrom start core b → (t : Ticket) → Contains b.desk.replies (told_left t)
     → logs_leave b.log ≡ true

@@ -3,8 +3,10 @@ pub use Rattle.closings.specs.Alone
 pub use Rattle.closings.specs.Guarded
 pub use Rattle.node_log.specs.NodeCoreHeld
 pub use Rattle.node_log.specs.NodeCoreSeen
+pub use Rattle.node_log.specs.NodeCoreSteps
 pub use Rattle.node_log.specs.NodeEventsSeen
 pub use Rattle.node_log.specs.Openings
+pub use Rattle.node_log.specs.Seen
 pub mod Told
 pub mod Waiting
 pub mod Desks
@@ -21,3 +23,4 @@ pub mod Dealings
 pub mod Said
 pub mod Sound
 pub mod Telling
+pub mod Returning

@@ -2,8 +2,8 @@
 use Rattle.std.specs.Prelude.{ℕ, false, ◌≡◌, ◌<◌, ◌+◌, ◌-◌, ◌^◌, ◌⊎◌, max, Option, None, Result, Ok, Err, List, [], ◌∷◌, ◌++◌, length, MatchResult}
 use Rattle.std.specs.Option.{option_map}
 use Rattle.node_log.specs.declared.Answer.{Answer}
-use Rattle.node_events.specs.declared.events.Event.{Event as NodeEvent}
-use Rattle.node_events.specs.declared.events.Event.TheVariants.{FromPeer}
+use Rattle.node_log.specs.NodeEvents.{Event as NodeEvent}
+use Rattle.node_log.specs.NodeEvents.TheVariants.{FromPeer}
 use Rattle.node_log.specs.NodeEventsSeen.{fault_of, is_memory}
 use Rattle.node_log.specs.NodeCoreHeld.{Held}
 use Rattle.node_log.specs.NodeCoreMade.{Made as Turn}

@@ -1,14 +1,10 @@
 //! When a refused round is tried again.
 ghost use Rattle.std.specs.Prelude.{◌≡◌, ◌-◌, ◌==◌, ◌≤◌};
-ghost use Rattle.node_loop.specs.Held.{most_turns};
 
 use crate::ring::Ring;
 use node_log::Letter;
 use std::marker::Model;
-use term::{LockId, Node, NodeSet, Resource};
-
-/// For so many empty turns a refused round waits at most.
-const MOST_TURNS: u32 = 1_024;
+use term::{LockId, MOST_TURNS, Node, NodeSet, Resource};
 
 /// For so many it waits for each rival that goes first, and where it knows of nobody who is in its way.
 const TURNS_FOR_ONE: u32 = 16;
@@ -35,13 +31,13 @@ pub(crate) struct Courtesy {
 
 impl Model for Courtesy {
     ghost use Rattle.std.specs.Prelude.{ℕ, ◌≤◌};
-    ghost use Rattle.node_loop.specs.Held.{most_turns};
+    ghost use Rattle.term.specs.declared.limits.TheConstants.{MOST_TURNS};
 
     ghost Value = { ℕ };
 
     ghost view = { λ c. c.turns };
 
-    ghost invariant = { λ c. c.turns ≤ most_turns };
+    ghost invariant = { λ c. c.turns ≤ MOST_TURNS };
 }
 
 /// Whether a lock is the one that the nodes' registrars ask for.
@@ -92,7 +88,7 @@ impl Courtesy {
 
     /// A refused round waits for so many turns, or for as many as it may.
     fn wait(&mut self, turns: u32)
-        ensures { self.new ≤ most_turns }
+        ensures { self.new ≤ MOST_TURNS }
     {
         self.turns = turns.min(MOST_TURNS);
     }
@@ -106,7 +102,7 @@ impl Courtesy {
     /// A lock call of a client is refused. Who holds the lock may do so for long: so it is tried again later each time. Where a
     /// round for the global lock waits, too, both are tried again when that wait is over.
     fn hear_client_refused(&mut self)
-        ensures { self.new ≤ most_turns }
+        ensures { self.new ≤ MOST_TURNS }
     {
         if self.is_refused {
             return;
@@ -118,7 +114,7 @@ impl Courtesy {
 
     /// Locks of clients may be free: calls that wait for one are tried soon.
     fn hear_client_freed(&mut self)
-        ensures { self.new ≤ most_turns }
+        ensures { self.new ≤ MOST_TURNS }
     {
         self.patience = TURNS_FOR_ONE;
         if self.is_refused {
@@ -130,7 +126,7 @@ impl Courtesy {
 
     /// A round of the node's own is refused.
     fn hear_refusal(&mut self, id: &LockId)
-        ensures { self.new ≤ most_turns }
+        ensures { self.new ≤ MOST_TURNS }
     {
         if !is_global(id) {
             return self.hear_client_refused();
@@ -146,7 +142,7 @@ impl Courtesy {
 
     /// A node asks for the lock. Where nobody holds it here, it is granted.
     fn hear_asked(&mut self, from: usize)
-        ensures { self.new ≤ most_turns }
+        ensures { self.new ≤ MOST_TURNS }
     {
         if self.holder.is_some() {
             return;
@@ -159,7 +155,7 @@ impl Courtesy {
 
     /// The node itself gives the lock back: its operation is done, unless a round was refused, which only had some grants.
     fn end_hold(&mut self)
-        ensures { self.new ≤ most_turns }
+        ensures { self.new ≤ MOST_TURNS }
     {
         if !self.is_refused {
             self.waited = None;
@@ -168,7 +164,7 @@ impl Courtesy {
 
     /// A node gives the lock back, or has left.
     fn hear_given_back(&mut self, from: usize)
-        ensures { self.new ≤ most_turns }
+        ensures { self.new ≤ MOST_TURNS }
     {
         if self.holder != Some(from) {
             return;
@@ -194,7 +190,7 @@ impl Courtesy {
 
     /// A letter is about to be read that came from this node of the world.
     pub(crate) fn hear(&mut self, world: &NodeSet, from: &Node, letter: &Letter)
-        ensures { self.new ≤ most_turns }
+        ensures { self.new ≤ MOST_TURNS }
     {
         // What is heard of no lock leaves the wait as it is, which is known to have its bound once a field is read.
         let _ring = &self.ring;

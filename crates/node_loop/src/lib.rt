@@ -22,7 +22,9 @@ pub use edit::{Edit, Edition, Update};
 pub use fault::TurnFault;
 pub use gate::{Gate, OpenGate};
 pub use item::{Item, Stamped, Task, Ticket};
-pub use laws::{threads_are_consistent, told_answers_are_logged, told_leaves_are_logged};
+pub use laws::{
+    starts_keep_sound, threads_are_consistent, told_answers_are_logged, told_leaves_are_logged,
+};
 pub use node_log::{
     Answer, Call, Event, ForgottenLog, Log, NameList, NodeCore, NodeEnd, Nodes, Notice, NoticeList,
     Opening, Record, Reply, Retries, SeatEntry, StartFault, StepFault, Transcript, WorldEvent,

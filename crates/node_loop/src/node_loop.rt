@@ -1,11 +1,13 @@
 //! A node's loop.
-ghost use Rattle.std.specs.Prelude.{◌≡◌, ◌∷◌, [], false, length, map, IfOk, OnErr, MatchOption};
+ghost use Rattle.std.specs.Prelude.{ℕ, ◌≡◌, ◌∷◌, [], true, false, length, map, IfOk, OnErr, MatchOption};
 ghost use Rattle.tray.specs.Held.{none_for};
-ghost use Rattle.node_log.specs.NodeCoreHeld.{spans_of};
+ghost use Rattle.node_log.specs.NodeCoreHeld.{spans_of, IsNext};
 ghost use Rattle.node_loop.specs.Told.{told_by};
 ghost use Rattle.node_loop.specs.Coming.{begun};
 ghost use Rattle.node_loop.specs.Desks.{empty_desk};
-ghost use Rattle.node_loop.specs.Held.{owes, written};
+ghost use Rattle.node_loop.specs.Held.{owes, with_next, written};
+ghost use Rattle.term.specs.NodeSets.{set_of, with_older};
+ghost use Rattle.node_loop.specs.Returning.{BeginsSoundFrom, KeepsSoundFrom, LeavesSoundFrom, MayStart};
 ghost use Rattle.node_loop.specs.Sound.{BeginsSound, KeepsSound, LeavesSound};
 ghost use Rattle.node_loop.specs.Turned.{Turned};
 ghost use Rattle.node_loop.specs.declared.edit.Note.TheVariants.{Whole};
@@ -83,6 +85,7 @@ impl<N: Names<Memory = Global>, L: Record> NodeLoop<N, L> {
           worked = false;
         }) }
         ensures sound { IfOk result (BeginsSound core) }
+        ensures sound_from { IfOk result (BeginsSoundFrom core stamp) }
     {
         let tray = Tray::new(alloc, core.world())?;
         Ok(NodeLoop::with_tray(alloc, core, stamp, tray))
@@ -93,6 +96,7 @@ impl<N: Names<Memory = Global>, L: Record> NodeLoop<N, L> {
         requires { tray ≡ map none_for core.world }
         ensures begun { result ≡ begun stamp core }
         ensures sound { BeginsSound core result }
+        ensures sound_from { BeginsSoundFrom core stamp result }
     {
         let world = core.world().copy();
         let log = L::new(alloc, core.node().copy(), &world);
@@ -131,6 +135,7 @@ impl<N: Names<Memory = Global>, L: Record> NodeLoop<N, L> {
     ) -> Result<(), TurnFault>
         ensures turned { Turned E.posts E.refuses E.takes E.misses (G.held gate.now) self.old (E.state end.old) result self.new (E.state end.new) }
         ensures sound { KeepsSound E.posts E.takes self.old (E.state end.old) result self.new (E.state end.new) }
+        ensures sound_from { KeepsSoundFrom E.posts E.takes self.old (E.state end.old) result self.new (E.state end.new) }
         ensures owing { KeepsOwing self.old self.new }
     {
         let permit = Permit::ask(gate, self.core.node().copy());
@@ -146,6 +151,7 @@ impl<N: Names<Memory = Global>, L: Record> NodeLoop<N, L> {
         requires { permit.node ≡ self.old.core.name }
         ensures turned { Turned E.posts E.refuses E.takes E.misses (λ n. ∥ G.held permit.entry.gate.now n ∥₁) self.old (E.state end.old) result self.new (E.state end.new) }
         ensures sound { KeepsSound E.posts E.takes self.old (E.state end.old) result self.new (E.state end.new) }
+        ensures sound_from { KeepsSoundFrom E.posts E.takes self.old (E.state end.old) result self.new (E.state end.new) }
     {
         self.tray.drain(end);
         let Ok(found) = end.take() else {
@@ -155,6 +161,40 @@ impl<N: Names<Memory = Global>, L: Record> NodeLoop<N, L> {
             return self.idle();
         };
         self.work(from, item)
+    }
+
+    /// The nodes of its world at present, as far as its node knows.
+    pub fn world(&self) -> &NodeSet
+        ensures { result.now ≡ self.now.core.world }
+    {
+        self.core.world()
+    }
+
+    /// Whether a node is at present one of its world, which has no younger one of its name then.
+    pub fn is_present(&self, node: &Node) -> bool
+        ensures present { result ≡ set_of self.now.core.world node.now }
+        ensures last { result ≡ true → (next : ℕ) → IsNext node.now next → with_older self.now.core.world next ≡ false }
+    {
+        self.core.world().contains(node)
+    }
+
+    /// Whether its node was told that this one has left, or a younger one of that name. It isn't told so of itself.
+    pub fn was_told(&self, node: &Node) -> bool
+        ensures told { result ≡ with_older self.now.core.told node.now }
+        ensures another { result ≡ true → node.now ≡ self.now.core.name → ⊥ }
+    {
+        self.core.told().reaches(node)
+    }
+
+    /// The next node of a name has started: it takes the place of the one before it, of which its node was told that it has left. Letters that
+    /// waited for that one are dropped. It is no step of the node.
+    pub fn replace(&mut self, older: &Node, next: &Node)
+        requires { MayStart older.now next.now self.old }
+        ensures { self.new ≡ with_next older.now next.now self.old }
+    {
+        self.core.replace(older, next);
+        self.world = self.core.world().copy();
+        self.tray.renew(older, next);
     }
 
     /// Its node.
@@ -267,6 +307,7 @@ impl<N: Names<Memory = Global>, L: Record> NodeLoop<N, L> {
         ensures table { N.contents result.table ≡ self.core.table }
         ensures ended_alone { result.ended_alone ≡ ended_alone }
         ensures sound { LeavesSound self (written (L.logged result.log)) (N.contents result.table) }
+        ensures sound_from { LeavesSoundFrom self (written (L.logged result.log)) (N.contents result.table) }
     {
         let NodeLoop { core, log, .. } = self;
         NodeEnd {

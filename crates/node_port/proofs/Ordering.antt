@@ -15,6 +15,7 @@ stay_ordered = record {
   gives = λ out s from i t h p. (stay_in_order.gives out s from i t h.0 p, keep_their_own.gives out s from i t h.1 p);
   hears = λ out s from line t h p. (stay_in_order.hears out s from line t h.0 p, keep_their_own.hears out s from line t h.1 p);
   loses = λ out s n t h p. (stay_in_order.loses out s n t h.0 p, keep_their_own.loses out s n t h.1 p);
+  starts = λ out s older next t h p. (stay_in_order.starts out s older next t h.0 p, keep_their_own.starts out s older next t h.1 p);
   asks = λ out s task h. (stay_in_order.asks out s task h.0, keep_their_own.asks out s task h.1);
   prints = λ out s h. (stay_in_order.prints out s h.0, keep_their_own.prints out s h.1);
   tells = λ out s h. (stay_in_order.tells out s h.0, keep_their_own.tells out s h.1);

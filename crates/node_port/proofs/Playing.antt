@@ -11,7 +11,7 @@ use Rattle.text_lines.specs.declared.lines.Line.{Line}
 use Rattle.text_lines.proofs.Known.{LosesLines-nil, LosesLines-trans, LosesInto-whole}
 use Rattle.text_lines.proofs.Written.{AppendsPart-behind, AppendsPart-whole}
 use Rattle.node_port.specs.Asking.{Reader, reader_of}
-use Rattle.node_port.specs.Commands.{Taken, Follows, Refused, Strange, Misplaced, Unfit, IsTaken, Says, TakenAs}
+use Rattle.node_port.specs.Commands.{Taken, Follows, Refused, Strange, Misplaced, Unfit, Astray, Untold, IsTaken, Says, TakenAs}
 use Rattle.node_port.specs.Deeds.{Stand, changes_by, replies_by}
 use Rattle.node_port.specs.Edits.{changed_lines}
 use Rattle.node_port.specs.Playing.{Printed, printed_text, printed_by, said, spent, waiting, PlaysLine, MoreOnly, PlaysAll}
@@ -203,6 +203,8 @@ taken_by reader bytes c (Refused tag fault) says so = absurd so
 taken_by reader bytes c (Strange d) says so = subst (Says reader bytes) (sym so) says
 taken_by reader bytes c (Misplaced from line) says so = subst (Says reader bytes) so says
 taken_by reader bytes c (Unfit from line fault) says so = subst (Says reader bytes) so says
+taken_by reader bytes c (Astray from line) says so = subst (Says reader bytes) so says
+taken_by reader bytes c (Untold next) says so = subst (Says reader bytes) so says
 
 module _ (bytes : List ℕ) (a b : Port) where
   -- a line is done as its command is

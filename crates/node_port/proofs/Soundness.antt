@@ -4,6 +4,7 @@ use Rattle.std.specs.Prelude.{◌&&◌, not, filter}
 use Rattle.std.specs.List.{list_all}
 use Rattle.std.specs.List.Sorted.{IsStrictlyIncreasing}
 use Rattle.std.proofs.lemmas.Bool.{and_from, and_parts, or_left, or_right, false≢true}
+use Rattle.std.proofs.lemmas.List.Elements.{All-head, All-tail}
 use Rattle.std.proofs.lemmas.List.Folds.{list_all-append}
 use Rattle.term.specs.NodeSets.{set_of}
 use Rattle.protocol_model.specs.World.{Opening, in_world}
@@ -20,7 +21,7 @@ use Rattle.node_loop.specs.NodeCoreHeld.{Held}
 use Rattle.node_loop.specs.NodeCoreSeen.{node_of}
 use Rattle.node_loop.specs.Said.{IsSaid}
 use Rattle.node_loop.specs.Sound.{IsNodeOf, opened, EndsSound}
-use Rattle.node_log.specs.Seen.{seen_entry}
+use Rattle.node_loop.specs.Seen.{seen_entry}
 use Rattle.node_loop.proofs.Beginning.{begins_sound}
 use Rattle.node_loop.proofs.Keeping.{keeps}
 use Rattle.node_loop.proofs.Standing.{besides}
@@ -32,16 +33,23 @@ use Rattle.wire_end.specs.Hearing.{HearsAt, LosesAt, laid, laid_if, lost_where, 
 use Rattle.wire_end.specs.Wirings.{place, wire_at, new_wire, begun as begun_end, Posts, Refuses, Takes, Misses}
 use Rattle.wire_end.proofs.Dealing.{deals}
 use Rattle.wire_end.proofs.Places.{at-place}
-use Rattle.node_port.specs.Commands.{Taken, Follows, Refused, Strange, Misplaced, Unfit}
+use Rattle.node_port.specs.Asking.{Reader, reader_of}
+use Rattle.node_port.specs.Commands.{Taken, Follows, Refused, Strange, Misplaced, Unfit, Astray, Untold, IsTaken, IsStartedLine}
 use Rattle.node_port.specs.Deeds.{Stand, Deed, Turn, Show, Hand, Does, DoesAll, BreaksOff, goes_on, all_go_on, is_still}
 use Rattle.node_port.specs.Edits.{Edited, Stood}
 use Rattle.node_port.specs.Playing.{Printed, Gives, EndsFor, PlaysLine, MoreOnly, PlaysAll}
-use Rattle.node_port.specs.Ran.{core_of, opened_so}
+use Rattle.node_port.specs.Ran.{Opens, Founds, Behind, Plainly, NobodyStarts, beginning_of, core_of, opened_so}
 use Rattle.node_port.specs.Soundness.{IsSoundAt, EndsSoundAt, IsSoundIn}
-use Rattle.node_port.specs.declared.commands.Command.TheVariants.{Ask, Steps, Letter, Down, Tick}
+use Rattle.node_port.specs.declared.commands.Command.TheVariants.{Ask, Steps, Letter, Down, Started, Tick}
 use Rattle.node_port.specs.declared.port.Standing.{Standing}
 use Rattle.node_port.specs.declared.port.Standing.TheVariants.{Runs, HasLeft, Broken, Spent}
 use Rattle.node_port.proofs.Stands.{stand_is}
+
+-- what is done one behind the other has a moment between
+pub split_at : (ds es : List Deed) (a c : Stand) → DoesAll (ds ++ es) a c → (b : Stand) × DoesAll ds a b × DoesAll es b c
+split_at [] es a c D = (a, refl, D)
+split_at (d ∷ ds) es a c D =
+    let rest = split_at ds es D.0 c D.2 in (rest.0, (D.0, D.1, rest.1), rest.2)
 
 -- what is shown and handed out the protocol doesn't see
 module _ (o : Opening) where
@@ -98,11 +106,6 @@ module _ (o : Opening) where
       let both = and_parts (goes_on d) (all_go_on ds) e in
       deeds_sound ds D.0 b both.1 D.2 (deed_sound d a D.0 both.0 D.1 S)
 
-  split_at : (ds es : List Deed) (a c : Stand) → DoesAll (ds ++ es) a c → (b : Stand) × DoesAll ds a b × DoesAll es b c
-  split_at [] es a c D = (a, refl, D)
-  split_at (d ∷ ds) es a c D =
-      let rest = split_at ds es D.0 c D.2 in (rest.0, (D.0, D.1, rest.1), rest.2)
-
   deeds_end : (ds : List Deed) (a b : Stand) → BreaksOff ds → DoesAll ds a b → IsSoundAt o a → EndsSoundAt o b
   deeds_end ds a b B D S =
       let parts = split_at B.before (Turn (Err StampsSpent) ∷ B.after) a b (subst (λ (x : List Deed). DoesAll x a b) B.split D) in
@@ -134,6 +137,31 @@ module _ (p : ℕ → Bool) where
           → list_all (λ v. p v.node) (map new_wire (cond b (n ∷ filter keep ns) (filter keep ns))) ≡ true
       go true rest = and_from (p n) _ (each n (or_left (n == n) (set_of ns n) (eq-eqb n n refl))) rest
       go false rest = rest
+
+-- a line doesn't say that a node has started
+abbrev pub SaysNoStart : List ℕ → Type 0
+SaysNoStart bytes = (next : ℕ) → IsStartedLine bytes next → ⊥
+
+-- by a line that is taken so no other node starts
+abbrev pub StartsNobody : Taken → Type 0
+StartsNobody (Follows (Started next)) = ⊥
+StartsNobody _ = Unit {0}
+
+-- so it is where the line doesn't say that one has started
+pub starts_nobody : (reader : Reader) (bytes : List ℕ) (taken : Taken) → IsTaken reader bytes taken → SaysNoStart bytes
+    → StartsNobody taken
+starts_nobody reader bytes (Follows (Ask tag event)) says none = tt
+starts_nobody reader bytes (Follows (Steps tag)) says none = tt
+starts_nobody reader bytes (Follows (Letter from line)) says none = tt
+starts_nobody reader bytes (Follows (Down n)) says none = tt
+starts_nobody reader bytes (Follows (Started next)) says none = none next says
+starts_nobody reader bytes (Follows Tick) says none = tt
+starts_nobody reader bytes (Refused tag fault) says none = tt
+starts_nobody reader bytes (Strange command) says none = tt
+starts_nobody reader bytes (Misplaced from line) says none = tt
+starts_nobody reader bytes (Unfit from line fault) says none = tt
+starts_nobody reader bytes (Astray from line) says none = tt
+starts_nobody reader bytes (Untold next) says none = tt
 
 -- a line that gives something to the end leaves it sound
 module _ (o : Opening) where
@@ -200,27 +228,31 @@ module _ (o : Opening) where
           by_word true = S
           by_word false = (inside_laid s n gone here.0 here.1, S.1)
 
-  gives_sound : (taken : Taken) (a b : Stand) → Gives taken a b → IsSoundAt o a → IsSoundAt o b
-  gives_sound (Follows (Ask tag event)) a b G S = subst (IsSoundAt o) (sym (stand_is b _ _ G.0 G.1)) S
-  gives_sound (Follows (Letter from line)) a b G S = heard_sound from line a b G.0 G.1 S
-  gives_sound (Follows (Down n)) a b G S = lost_sound n a b G.0 G.1 S
-  gives_sound (Follows (Steps tag)) a b G S = subst (IsSoundAt o) (sym G) S
-  gives_sound (Follows Tick) a b G S = subst (IsSoundAt o) (sym G) S
-  gives_sound (Refused tag fault) a b G S = subst (IsSoundAt o) (sym G) S
-  gives_sound (Strange (Letter from line)) a b G S = subst (IsSoundAt o) (sym G.0) S
-  gives_sound (Strange (Down n)) a b G S = subst (IsSoundAt o) (sym G.0) S
-  gives_sound (Strange (Ask tag event)) a b G S = absurd G
-  gives_sound (Strange (Steps tag)) a b G S = absurd G
-  gives_sound (Strange Tick) a b G S = absurd G
-  gives_sound (Misplaced from line) a b G S = subst (IsSoundAt o) (sym G.0) S
-  gives_sound (Unfit from line fault) a b G S = subst (IsSoundAt o) (sym G.0) S
+  gives_sound : (taken : Taken) (a b : Stand) → StartsNobody taken → Gives taken a b → IsSoundAt o a → IsSoundAt o b
+  gives_sound (Follows (Ask tag event)) a b none G S = subst (IsSoundAt o) (sym (stand_is b _ _ G.0 G.1)) S
+  gives_sound (Follows (Letter from line)) a b none G S = heard_sound from line a b G.0 G.1 S
+  gives_sound (Follows (Down n)) a b none G S = lost_sound n a b G.0 G.1 S
+  gives_sound (Follows (Started next)) a b none G S = absurd none
+  gives_sound (Follows (Steps tag)) a b none G S = subst (IsSoundAt o) (sym G) S
+  gives_sound (Follows Tick) a b none G S = subst (IsSoundAt o) (sym G) S
+  gives_sound (Refused tag fault) a b none G S = subst (IsSoundAt o) (sym G) S
+  gives_sound (Strange (Letter from line)) a b none G S = subst (IsSoundAt o) (sym G.0) S
+  gives_sound (Strange (Down n)) a b none G S = subst (IsSoundAt o) (sym G.0) S
+  gives_sound (Strange (Started next)) a b none G S = subst (IsSoundAt o) (sym G.0) S
+  gives_sound (Strange (Ask tag event)) a b none G S = absurd G
+  gives_sound (Strange (Steps tag)) a b none G S = absurd G
+  gives_sound (Strange Tick) a b none G S = absurd G
+  gives_sound (Misplaced from line) a b none G S = subst (IsSoundAt o) (sym G.0) S
+  gives_sound (Unfit from line fault) a b none G S = subst (IsSoundAt o) (sym G.0) S
+  gives_sound (Astray from line) a b none G S = subst (IsSoundAt o) (sym G.0) S
+  gives_sound (Untold next) a b none G S = subst (IsSoundAt o) (sym G.0) S
 
   -- a line that is played
-  line_sound : (bytes : List ℕ) (s : Standing) (a : Stand) (p : Printed) (b : Stand) → PlaysLine bytes s a p b → IsSoundAt o a → IsSoundIn s o b
-  line_sound bytes s a p b L S = go s L.ends
+  line_sound : (bytes : List ℕ) (s : Standing) (a : Stand) (p : Printed) (b : Stand) → SaysNoStart bytes → PlaysLine bytes s a p b → IsSoundAt o a → IsSoundIn s o b
+  line_sound bytes s a p b none L S = go s L.ends
     where
       first : IsSoundAt o L.first
-      first = gives_sound L.taken a L.first L.gives S
+      first = gives_sound L.taken a L.first (starts_nobody (reader_of a.loop) bytes L.taken L.says none) L.gives S
 
       on : all_go_on L.deeds ≡ true → IsSoundAt o b
       on e = subst (IsSoundAt o) (sym L.behind) (deeds_sound o L.deeds L.first L.last e L.does first)
@@ -231,10 +263,12 @@ module _ (o : Opening) where
       go Broken e = on e.0
       go Spent e = subst (EndsSoundAt o) (sym L.behind) (deeds_end o L.deeds L.first L.last e L.does first)
 
-  pub lines_sound : (ls : List (List ℕ)) (s : Standing) (a : Stand) (out : List Printed) (c : Stand) → PlaysAll ls s a out c → IsSoundAt o a
-      → IsSoundIn s o c
-  lines_sound [] s a out c h S = subst (λ (x : Standing). IsSoundIn x o c) (sym h.0) (subst (IsSoundAt o) (sym h.2) S)
-  lines_sound (l ∷ ls) s a out c h S = go h.3 (λ m T. lines_sound ls s h.4 h.1 c m T) (line_sound l h.3 a h.0 h.4 h.5 S) h.6
+  pub lines_sound : (ls : List (List ℕ)) (s : Standing) (a : Stand) (out : List Printed) (c : Stand) → NobodyStarts ls → PlaysAll ls s a out c
+      → IsSoundAt o a → IsSoundIn s o c
+  lines_sound [] s a out c none h S = subst (λ (x : Standing). IsSoundIn x o c) (sym h.0) (subst (IsSoundAt o) (sym h.2) S)
+  lines_sound (l ∷ ls) s a out c none h S =
+      go h.3 (λ m T. lines_sound ls s h.4 h.1 c (All-tail SaysNoStart l ls none) m T)
+      (line_sound l h.3 a h.0 h.4 (All-head SaysNoStart l ls none) h.5 S) h.6
     where
       go : (x : Standing) → (PlaysAll ls s h.4 h.1 c → IsSoundAt o h.4 → IsSoundIn s o c) → IsSoundIn x o h.4
           → MoreOnly x s ls h.1 h.4 c (PlaysAll ls s h.4 h.1 c) → IsSoundIn s o c
@@ -244,11 +278,18 @@ module _ (o : Opening) where
       go Spent on S m = subst (λ (x : Standing). IsSoundIn x o c) (sym m.0) (subst (EndsSoundAt o) (sym m.3) S)
 
 -- a node as it opens
-pub opens_sound : (o : Opening) (node : ℕ) (world : List ℕ) (founds : Bool) → IsStrictlyIncreasing world → IsNodeOf o (core_of node world founds)
-    → node_of (core_of node world founds) ≡ opened o (core_of node world founds) → IsSoundAt o (opened_so node world founds)
-opens_sound o node world founds rising I opens = (
-  and_from (in_world o node) _ (ap (λ (f : ℕ → Bool). f node) I.inside ∙ I.here)
-      (and_from (list_all (λ w. in_world o w.node) (begun_end node world).wires) true
-      (all_inside (in_world o) (λ n. not (n == node)) world (λ n h. ap (λ (f : ℕ → Bool). f n) I.inside ∙ h)) refl),
-  begins_sound (core_of node world founds) (begun 0 (core_of node world founds)) rising refl refl refl refl o I opens,
+opens_at : (o : Opening) (core : Held) (stamp : ℕ) → IsStrictlyIncreasing core.world → IsNodeOf o core → node_of core ≡ opened o core
+    → IsSoundAt o (record { loop = begun stamp core; end = begun_end core.name core.world })
+opens_at o core stamp rising I opens = (
+  and_from (in_world o core.name) _ (ap (λ (f : ℕ → Bool). f core.name) I.inside ∙ I.here)
+      (and_from (list_all (λ w. in_world o w.node) (begun_end core.name core.world).wires) true
+      (all_inside (in_world o) (λ n. not (n == core.name)) core.world (λ n h. ap (λ (f : ℕ → Bool). f n) I.inside ∙ h)) refl),
+  begins_sound core (begun stamp core) rising refl refl refl refl o I opens,
 )
+
+pub opens_sound : (o : Opening) (node : ℕ) (names : List ℕ) (how : Opens) → IsStrictlyIncreasing (core_of node names how).world
+    → IsNodeOf o (core_of node names how) → node_of (core_of node names how) ≡ opened o (core_of node names how)
+    → IsSoundAt o (opened_so node names how)
+opens_sound o node names Founds rising I opens = opens_at o (core_of node names Founds) 0 rising I opens
+opens_sound o node names (Behind b) rising I opens = opens_at o (core_of node names (Behind b)) b.stamp rising I opens
+opens_sound o node names Plainly rising I opens = opens_at o (core_of node names Plainly) 0 rising I opens

@@ -1,7 +1,8 @@
 -- What lines tell, and that others tell nothing.
-use Rattle.std.proofs.Common.{ℕ, ◌≡◌, List, ◌∷◌, ◌++◌, codes, arith, sym, subst, ap, ◌∙◌, refl, get_or, Option, None, Result, Ok, Err, MatchResult}
+use Rattle.std.proofs.Common.{ℕ, ◌≡◌, List, ◌∷◌, ◌++◌, codes, arith, sym, subst, ap, ◌∙◌, refl, get_or, Option, Some, None, Result, Ok, Err, MatchOption, MatchResult}
 use Rattle.std.proofs.lemmas.List.{append_cancel_left}
 use Rattle.term.specs.declared.faults.TextFault.{TextFault}
+use Rattle.term.specs.NodeLists.{SpellsNodeSet}
 use Rattle.term.specs.Spelling.{SpellsNode, RefusesNode}
 use Rattle.term.proofs.OneNode.{exact_nodes}
 use Rattle.command_lines.specs.Commands.{unread}
@@ -12,7 +13,9 @@ use Rattle.letter_lines.specs.Laws.{PartsAreExact}
 use Rattle.wire_end.specs.declared.line.LinkLine.{LinkLine}
 use Rattle.node_port.specs.Numbers.{SpellsNumber, SpellsNoNumber}
 use Rattle.node_port.specs.Asking.{Reader}
+use Rattle.node_port.specs.Beginnings.{IsBeginText, IsBeginLine}
 use Rattle.node_port.specs.Commands.{IsCut, HasNoCut, TellsLine, TellsNoLine, TellsNoPart, IsTagged, HasNoTag, Says, SaysNothing, Refuses, RefusedFor, IsRefused}
+use Rattle.node_port.specs.declared.commands.Beginning.{Beginning}
 use Rattle.node_port.specs.declared.commands.Command.{Command}
 use Rattle.node_port.specs.declared.commands.Refused.{Refused}
 use Rattle.node_port.proofs.Cuts.{cut_once}
@@ -72,6 +75,7 @@ no_letter bytes text is none = record {
   letter = λ from line h.
       none from line h.node h.rest (append_cancel_left (codes "letter ") text (h.node ++ 32 ∷ h.rest) (sym is ∙ h.is)) h.sender h.tells;
   down = λ node h. omega (arith, first_byte bytes 108 100 _ _ is h.is);
+  started = λ node h. omega (arith, first_byte bytes 108 115 _ _ is h.is);
   tick = λ e. omega (arith, first_byte bytes 108 116 _ _ is e);
 }
 
@@ -103,8 +107,70 @@ no_down bytes text is none = record {
   down = λ node h.
       none node (subst (λ (bs : List ℕ). SpellsNode bs node)
       (sym (append_cancel_left (codes "down ") text h.text (sym is ∙ h.is))) h.spells);
+  started = λ node h. omega (arith, first_byte bytes 100 115 _ _ is h.is);
   tick = λ e. omega (arith, first_byte bytes 100 116 _ _ is e);
 }
+
+-- nor does one that begins as one of a node that has started
+pub no_started : (bytes text : List ℕ) → bytes ≡ codes "started " ++ text → ((node : ℕ) → SpellsNode text node → ⊥) → SaysNothing bytes
+no_started bytes text is none = record {
+  letter = λ from line h. omega (arith, first_byte bytes 115 108 _ _ is h.is);
+  down = λ node h. omega (arith, first_byte bytes 115 100 _ _ is h.is);
+  started = λ node h.
+      none node (subst (λ (bs : List ℕ). SpellsNode bs node)
+      (sym (append_cancel_left (codes "started ") text h.text (sym is ∙ h.is))) h.spells);
+  tick = λ e. omega (arith, first_byte bytes 115 116 _ _ is e);
+}
+
+-- a text that says who has left is cut behind its stamp
+pub begin-cut : (text digits list : List ℕ) (stamp : ℕ) → text ≡ digits ++ 32 ∷ list → SpellsNumber digits stamp → IsCut text digits list
+begin-cut text digits list stamp is number = record { is = is; first = number-lacks digits stamp number }
+
+abbrev pub NeverBegins : List ℕ → Type 0
+NeverBegins bytes = (stamp : ℕ) (left : List ℕ) → IsBeginText bytes stamp left → ⊥
+
+module _ (bytes text : List ℕ) (is : bytes ≡ codes "behind " ++ text) where
+  -- what stands behind its word
+  behind_word : (stamp : ℕ) (left : List ℕ) (t : IsBeginText bytes stamp left) → text ≡ t.digits ++ 32 ∷ t.list
+  behind_word stamp left t = append_cancel_left (codes "behind ") text (t.digits ++ 32 ∷ t.list) (sym is ∙ t.is)
+
+  pub uncut_begin : HasNoCut text → NeverBegins bytes
+  uncut_begin none stamp left t = none t.digits t.list (begin-cut text t.digits t.list stamp (behind_word stamp left t) t.number)
+
+  module _ (digits list : List ℕ) (cut : IsCut text digits list) where
+    cut_so : (stamp : ℕ) (left : List ℕ) (t : IsBeginText bytes stamp left) → (digits ≡ t.digits) × (list ≡ t.list)
+    cut_so stamp left t =
+        cut_once text digits list t.digits t.list cut (begin-cut text t.digits t.list stamp (behind_word stamp left t) t.number)
+
+    pub number_begin : SpellsNoNumber digits → NeverBegins bytes
+    number_begin none stamp left t = none stamp (subst (λ (ds : List ℕ). SpellsNumber ds stamp) (sym (cut_so stamp left t).0) t.number)
+
+    pub list_begin : ((nodes : List ℕ) → SpellsNodeSet list nodes → ⊥) → NeverBegins bytes
+    list_begin none stamp left t = none left (subst (λ (bs : List ℕ). SpellsNodeSet bs left) (sym (cut_so stamp left t).1) t.listed)
+
+    pub begins_so : (stamp : ℕ) (left : List ℕ) → SpellsNumber digits stamp → SpellsNodeSet list left → IsBeginText bytes stamp left
+    begins_so stamp left number listed = record {
+      digits = digits;
+      list = list;
+      is = is ∙ ap (λ (bs : List ℕ). codes "behind " ++ bs) cut.is;
+      number = number;
+      listed = listed;
+    }
+
+-- a line that begins otherwise says nothing of it
+pub other_begin : (bytes : List ℕ) → ((rest : List ℕ) → bytes ≡ codes "behind " ++ rest → ⊥) → NeverBegins bytes
+other_begin bytes none stamp left t = none (t.digits ++ 32 ∷ t.list) t.is
+
+-- what a text says of a beginning that can be read, its line says
+pub begin_said : (bytes text : List ℕ) (r : Option Beginning) → text ≡ bytes → unread bytes ≡ None
+    → MatchOption r (NeverBegins text) (λ b. IsBeginText text b.stamp b.left)
+    → MatchOption r ((stamp : ℕ) (left : List ℕ) → IsBeginLine bytes stamp left → ⊥) (λ b. IsBeginLine bytes b.stamp b.left)
+begin_said bytes text None same e h = λ stamp left l. h stamp left (subst (λ (bs : List ℕ). IsBeginText bs stamp left) (sym same) l.1)
+begin_said bytes text (Some b) same e h = (e, subst (λ (bs : List ℕ). IsBeginText bs b.stamp b.left) same h)
+
+-- a line that can't be read says nothing of one
+pub unread_begin : (bytes : List ℕ) (fault : LineFault) → unread bytes ≡ Some fault → (stamp : ℕ) (left : List ℕ) → IsBeginLine bytes stamp left → ⊥
+unread_begin bytes fault e stamp left l = cc (e, l.0)
 
 -- a tagged line is cut behind its tag
 tag-cut : (bytes : List ℕ) (tag : ℕ) (text : List ℕ) (t : IsTagged bytes tag text) → IsCut bytes t.digits text

@@ -14,12 +14,12 @@ use Rattle.node_loop.specs.Held.{Looping}
 use Rattle.node_loop.specs.Steps.{Outcome}
 use Rattle.node_loop.specs.Told.{Told}
 use Rattle.wire_end.specs.declared.faults.HearFault.{HearFault}
-use Rattle.wire_end.specs.declared.faults.HearFault.TheVariants.{NoSuchNode, Gap, Part}
+use Rattle.wire_end.specs.declared.faults.HearFault.TheVariants.{NoSuchNode, Gap, Stray, Part}
 use Rattle.wire_end.specs.declared.line.LinkLine.{LinkLine}
 use Rattle.wire_end.specs.declared.wire_end.Wiring.{Wiring}
 use Rattle.wire_end.specs.Hearing.{Hears, RefusesAt, Loses, LosesAt}
 use Rattle.wire_end.specs.Wirings.{place}
-use Rattle.node_port.specs.Commands.{Taken, Strange, Misplaced, Unfit, TakenAs, is_done}
+use Rattle.node_port.specs.Commands.{Taken, Strange, Misplaced, Unfit, Astray, TakenAs, is_done}
 use Rattle.node_port.specs.Deeds.{Stand, Deed, Turn, Show, Hand, Does, DoesAll, BreaksOff, IsAllTold, change_by, changes_by, reply_by, replies_by, goes_on, all_go_on, is_still}
 use Rattle.node_port.specs.Playing.{Gives, EndsFor, said, spent}
 use Rattle.node_port.specs.Shown.{Shown, Tells, Spends}
@@ -179,7 +179,8 @@ unchanged fault from line s t h ne = go (place from s.wires) h
     go : (at : Option ℕ) → RefusesAt at from line fault s t → t ≡ s
     go None h = h.1
     go (Some k) (inl x) = x.1
-    go (Some k) (inr e) = absurd (ne e.0)
+    go (Some k) (inr (inl e)) = absurd (ne e.0)
+    go (Some k) (inr (inr x)) = x.2
 
 -- what is behind a refusal
 module _ (a m b : Port) (loop : m.node ≡ a.node) (output : m.output ≡ a.output) (still : stand_of b ≡ stand_of m) where
@@ -196,6 +197,13 @@ module _ (a m b : Port) (loop : m.node ≡ a.node) (output : m.output ≡ a.outp
       let e : m.end ≡ a.end = unchanged Gap from line a.end m.end h (λ x. cc x) in
       subst (λ (x : Standing). PlaysAt (Misplaced from line) x (spent x) a b) (sym R.0)
       (answers (Misplaced from line) Broken [] a b (refl, subst (λ (x : Wiring). Hears from line (Err Gap) a.end x) e h) (same e) (refl, tt) (shown_so _ R.1))
+
+  heard_stray : (from : ℕ) (line : LinkLine) (s : Standing) → Hears from line (Err Stray) a.end m.end → RefusesFor Stray from line.number s m b
+      → PlaysAt (Astray from line) s (spent s) a b
+  heard_stray from line s h R =
+      let e : m.end ≡ a.end = unchanged Stray from line a.end m.end h (λ x. cc x) in
+      subst (λ (x : Standing). PlaysAt (Astray from line) x (spent x) a b) (sym R.0)
+      (answers (Astray from line) Runs [] a b (refl, subst (λ (x : Wiring). Hears from line (Err Stray) a.end x) e h) (same e) refl (shown_so _ R.1))
 
   heard_strange : (from : ℕ) (line : LinkLine) (s : Standing) → Hears from line (Err NoSuchNode) a.end m.end
       → RefusesFor NoSuchNode from line.number s m b → PlaysAt (Strange (Letter from line)) s (spent s) a b
@@ -217,6 +225,7 @@ module _ (a m b : Port) (loop : m.node ≡ a.node) (output : m.output ≡ a.outp
   pub not_heard : (fault : HearFault) (from : ℕ) (line : LinkLine) (s : Standing) → Hears from line (Err fault) a.end m.end
       → RefusesFor fault from line.number s m b → (taken : Taken) × TakenAs (Letter from line) taken × PlaysAt taken s (spent s) a b
   not_heard Gap from line s h R = (Misplaced from line, refl, heard_gap from line s h R)
+  not_heard Stray from line s h R = (Astray from line, refl, heard_stray from line s h R)
   not_heard NoSuchNode from line s h R = (Strange (Letter from line), refl, heard_strange from line s h R)
   not_heard (Part f) from line s h R = (Unfit from line f, refl, heard_part f from line s h R)
 

@@ -1,6 +1,7 @@
 -- What the words behind a tag ask of the node.
 use Rattle.std.specs.Prelude.{ℕ, Bool, true, false, ◌≡◌, ◌==◌, ◌||◌, ◌⊎◌, bytes_eq, codes, if◌then◌else◌, take, Option, Some, None, List, [], ◌∷◌, Ok}
 use Rattle.registry_model.specs.Process.{Process}
+use Rattle.term.specs.declared.limits.TheConstants.{MOST_WORDS}
 use Rattle.protocol_model.specs.Event.{Event}
 use Rattle.protocol_model.specs.NamedEvents.{At, AtNode, Play}
 use Rattle.text_lines.specs.Words.{words}
@@ -83,6 +84,6 @@ reads_as name last = record { node = name_bytes name; own = own_bytes last }
 abbrev pub reader_of : Looping → Reader
 reader_of a = reads_as (name_of a.log.node) (last_process a.log.node a.core.watch.watch.last_serial)
 
--- a text asks a node for this event: by its first seven words, as no line has so many
+-- a text asks a node for this event: by its first words, of which no line has so many
 abbrev pub TextAsksFor : Reader → List ℕ → Event → Type 0
-TextAsksFor reader text event = WordsAskFor reader.node (meant reader.own (take 7 (words text))) event
+TextAsksFor reader text event = WordsAskFor reader.node (meant reader.own (take MOST_WORDS (words text))) event

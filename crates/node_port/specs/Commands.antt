@@ -13,7 +13,7 @@ use Rattle.wire_end.specs.declared.line.LinkLine.{LinkLine}
 use Rattle.node_port.specs.Asking.{Reader, TextAsksFor}
 use Rattle.node_port.specs.Numbers.{SpellsNumber}
 use Rattle.node_port.specs.declared.commands.Command.{Command}
-use Rattle.node_port.specs.declared.commands.Command.TheVariants.{Ask, Steps, Letter, Down, Tick}
+use Rattle.node_port.specs.declared.commands.Command.TheVariants.{Ask, Steps, Letter, Down, Started, Tick}
 use Rattle.node_port.specs.declared.commands.Refused.{Refused as ARefused}
 
 -- no byte is a space
@@ -60,6 +60,12 @@ pub record IsDownLine (bytes : List ℕ) (node : ℕ) : Type 0 where
   pub is : bytes ≡ codes "down " ++ text
   pub spells : SpellsNode text node
 
+-- they are the line that a node has started
+pub record IsStartedLine (bytes : List ℕ) (node : ℕ) : Type 0 where
+  pub text : List ℕ
+  pub is : bytes ≡ codes "started " ++ text
+  pub spells : SpellsNode text node
+
 -- they are a tag, and behind it this text
 pub record IsTagged (bytes : List ℕ) (tag : ℕ) (text : List ℕ) : Type 0 where
   pub digits : List ℕ
@@ -89,12 +95,14 @@ Says reader bytes (Ask tag event) = AsksFor reader bytes tag event
 Says reader bytes (Steps tag) = IsTagged bytes tag (codes "steps")
 Says reader bytes (Letter from line) = IsLinkLine bytes from line
 Says reader bytes (Down node) = IsDownLine bytes node
+Says reader bytes (Started node) = IsStartedLine bytes node
 Says reader bytes Tick = bytes ≡ codes "tick"
 
 -- they are none of the lines that have no tag
 pub record SaysNothing (bytes : List ℕ) : Type 0 where
   pub letter : (from : ℕ) (line : LinkLine) → IsLinkLine bytes from line → ⊥
   pub down : (node : ℕ) → IsDownLine bytes node → ⊥
+  pub started : (node : ℕ) → IsStartedLine bytes node → ⊥
   pub tick : bytes ≢ codes "tick"
 
 -- what is refused under a tag, or under none: something is asked under it, or there is none, and it is none of the other lines either
@@ -111,13 +119,16 @@ abbrev pub IsRefused : List ℕ → ARefused → Type 0
 IsRefused bytes refused = RefusedFor (unread bytes) bytes refused
 
 -- how a line is taken: what it says is done; or it says nothing, and is refused, under a tag or under none; or it is of no other node of the
--- world; or it is a line of a link that isn't the next of it, or that says no part of the letter which those before it began
+-- world; or it is a line of a link that isn't the next of it, or that says no part of the letter which those before it began, or that ends a
+-- letter which no node says, as far as this one knows; or a node is to have started, and it wasn't told that the one before it has left
 pub data Taken : Type 0 where
   Follows : (command : Command) → Taken
   Refused : (tag : Option ℕ) (fault : LineFault) → Taken
   Strange : (command : Command) → Taken
   Misplaced : (from : ℕ) (line : LinkLine) → Taken
   Unfit : (from : ℕ) (line : LinkLine) (fault : LetterFault) → Taken
+  Astray : (from : ℕ) (line : LinkLine) → Taken
+  Untold : (next : ℕ) → Taken
 
 -- a line that is taken so says so
 abbrev pub IsTaken : Reader → List ℕ → Taken → Type 0
@@ -126,6 +137,8 @@ IsTaken reader bytes (Refused tag fault) = IsRefused bytes (record { tag = tag; 
 IsTaken reader bytes (Strange command) = Says reader bytes command
 IsTaken reader bytes (Misplaced from line) = IsLinkLine bytes from line
 IsTaken reader bytes (Unfit from line fault) = IsLinkLine bytes from line
+IsTaken reader bytes (Astray from line) = IsLinkLine bytes from line
+IsTaken reader bytes (Untold next) = IsStartedLine bytes next
 
 -- how a command may be taken
 abbrev pub TakenAs : Command → Taken → Type 0
@@ -134,9 +147,12 @@ TakenAs c (Refused tag fault) = ⊥
 TakenAs c (Strange d) = d ≡ c
 TakenAs c (Misplaced from line) = c ≡ Letter from line
 TakenAs c (Unfit from line fault) = c ≡ Letter from line
+TakenAs c (Astray from line) = c ≡ Letter from line
+TakenAs c (Untold next) = c ≡ Started next
 
--- something is done for it
+-- steps may be made for it
 abbrev pub is_done : Taken → Bool
 is_done (Follows (Steps tag)) = false
+is_done (Follows (Started next)) = false
 is_done (Follows command) = true
 is_done _ = false

@@ -1,6 +1,7 @@
 pub use Rattle.wire_end.specs.Dealings
 pub mod Numbers
 pub mod Asking
+pub mod Beginnings
 pub mod Commands
 pub mod Shown
 pub mod Edits

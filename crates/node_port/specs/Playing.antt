@@ -4,15 +4,20 @@ use Rattle.letter_lines.specs.declared.faults.LetterFault.TheVariants.{Memory}
 use Rattle.node_loop.specs.declared.Event.{Event}
 use Rattle.node_loop.specs.declared.item.Task.{Task}
 use Rattle.node_loop.specs.Held.{Looping, owes}
-use Rattle.wire_end.specs.declared.faults.HearFault.TheVariants.{Gap, NoSuchNode, Part}
+use Rattle.wire_end.specs.declared.faults.HearFault.TheVariants.{Gap, Stray, NoSuchNode, Part}
 use Rattle.wire_end.specs.Hearing.{Hears, Loses}
+use Rattle.wire_end.specs.Starting.{Starts, is_alone}
+use Rattle.node_loop.specs.Held.{with_next}
+use Rattle.node_loop.specs.NodeCoreHeld.{IsNext}
+use Rattle.node_loop.specs.Returning.{MayStart}
+use Rattle.term.specs.NodeSets.{set_of, with_older}
 use Rattle.node_port.specs.Asking.{reader_of}
-use Rattle.node_port.specs.Commands.{Taken, Follows, Refused, Strange, Misplaced, Unfit, IsTaken, is_done}
+use Rattle.node_port.specs.Commands.{Taken, Follows, Refused, Strange, Misplaced, Unfit, Astray, Untold, IsTaken, is_done}
 use Rattle.node_port.specs.Deeds.{Stand, Deed, DoesAll, BreaksOff, IsAllTold, changes_by, replies_by, all_go_on}
 use Rattle.node_port.specs.Edits.{Changed, changed_lines}
-use Rattle.node_port.specs.Shown.{Shown, Tells, Counts, Gaps, Misses, Waits, Spends, line_fault_of, shown_lines}
+use Rattle.node_port.specs.Shown.{Shown, Tells, Counts, Gaps, Strays, Misses, Untells, Waits, Spends, line_fault_of, shown_lines}
 use Rattle.node_port.specs.Shown as shown
-use Rattle.node_port.specs.declared.commands.Command.TheVariants.{Ask, Steps, Letter, Down}
+use Rattle.node_port.specs.declared.commands.Command.TheVariants.{Ask, Steps, Letter, Down, Started, Tick}
 use Rattle.node_port.specs.declared.port.Standing.{Standing}
 use Rattle.node_port.specs.declared.port.Standing.TheVariants.{Runs, HasLeft, Broken, Spent}
 
@@ -20,16 +25,41 @@ use Rattle.node_port.specs.declared.port.Standing.TheVariants.{Runs, HasLeft, Br
 abbrev pub asked : ℕ → Event → Task
 asked tag event = record { ticket = Some (record { seat = 0; slot = 0; number = tag }); event = event }
 
--- what a line that is taken so gives to the node's end: a task, a line of a link, or the word that a node is gone; any other nothing. The end
--- knows no such node, or takes a line of a link neither where it isn't the next, nor where its part fits no letter that was begun
+-- a node takes the place of the one before it, of which this one was told that it has left: in its loop, and at its end
+pub record GivesStart (next : ℕ) (a b : Stand) : Type 0 where
+  pub older : ℕ
+  pub may : MayStart older next a.loop
+  pub starts : Starts older next a.end b.end
+  pub loop : b.loop ≡ with_next older next a.loop
+
+-- the one before it isn't another node that is at present, alone of its name, or this one has left
+abbrev pub HasNoPlace : ℕ → Stand → Type 0
+HasNoPlace next a =
+    (older : ℕ) → IsNext older next → is_alone older a.end ≡ true → set_of a.loop.core.world older ≡ true → a.loop.left ≡ false → ⊥
+
+-- it is, and this node wasn't told that it has left
+pub record IsUntold (next : ℕ) (a : Stand) : Type 0 where
+  pub older : ℕ
+  pub next_is : IsNext older next
+  pub alone : is_alone older a.end ≡ true
+  pub known : set_of a.loop.core.world older ≡ true
+  pub untold : with_older a.loop.core.told older ≡ false
+
+-- what a line that is taken so gives to the node's end: a task, a line of a link, the word that a node is gone, or that one has started; any other
+-- nothing. The end knows no such node, or takes a line of a link neither where it isn't the next, nor where its part fits no letter that was
+-- begun, nor where that is a letter which no node says
 abbrev pub Gives : Taken → Stand → Stand → Type 0
 Gives (Follows (Ask tag event)) a b = (b.loop ≡ a.loop) × (b.end ≡ record a.end { tasks = a.end.tasks ++ asked tag event ∷ [] })
 Gives (Follows (Letter from line)) a b = (b.loop ≡ a.loop) × Hears from line (Ok tt) a.end b.end
 Gives (Follows (Down node)) a b = (b.loop ≡ a.loop) × Loses node (Ok tt) a.end b.end
+Gives (Follows (Started next)) a b = GivesStart next a b
+Gives (Untold next) a b = (b ≡ a) × IsUntold next a
+Gives (Astray from line) a b = (b ≡ a) × Hears from line (Err Stray) a.end a.end
 Gives (Misplaced from line) a b = (b ≡ a) × Hears from line (Err Gap) a.end a.end
 Gives (Unfit from line fault) a b = (b ≡ a) × (fault ≢ Memory) × Hears from line (Err (Part fault)) a.end a.end
 Gives (Strange (Letter from line)) a b = (b ≡ a) × Hears from line (Err NoSuchNode) a.end a.end
 Gives (Strange (Down node)) a b = (b ≡ a) × Loses node (Err NoSuchNode) a.end a.end
+Gives (Strange (Started next)) a b = (b ≡ a) × HasNoPlace next a
 Gives (Strange command) a b = ⊥
 Gives _ a b = b ≡ a
 
@@ -40,6 +70,8 @@ said (Refused tag fault) loop = shown.Refuses tag fault ∷ []
 said (Strange command) loop = Misses ∷ []
 said (Unfit from line fault) loop = shown.Refuses None (line_fault_of fault) ∷ []
 said (Misplaced from line) loop = Gaps from line.number ∷ []
+said (Astray from line) loop = Strays ∷ []
+said (Untold next) loop = Untells ∷ []
 said _ loop = []
 
 -- the last word of a line: that no stamp is left for a step, or that something waits to be tried again

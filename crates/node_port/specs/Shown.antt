@@ -25,7 +25,9 @@ pub data Shown : Type 0 where
   Counts : (tag steps : ℕ) → Shown  -- how many steps the node has made
   Refuses : (tag : Option ℕ) → (fault : LineFault) → Shown  -- a line was not done
   Gaps : (node number : ℕ) → Shown  -- a line wasn't the next of its link
+  Strays : Shown  -- a letter is one that no node says, as far as this one knows
   Misses : Shown  -- no other node of the world is meant
+  Untells : Shown  -- the node wasn't told that the one before has left
   Waits : Shown  -- something waits to be tried again
   Spends : Shown  -- no stamp is left for a step
 
@@ -70,7 +72,9 @@ shown_text (Tells told) = decimal told.ticket.number ++ 32 ∷ outcome_text told
 shown_text (Counts tag steps) = decimal tag ++ 32 ∷ decimal steps
 shown_text (Refuses tag fault) = tag_text tag ++ (codes "error " ++ word_of fault)
 shown_text (Gaps node number) = codes "gap " ++ (node_bytes node ++ 32 ∷ decimal number)
+shown_text Strays = codes "error stray_letter"
 shown_text Misses = codes "error no_such_node"
+shown_text Untells = codes "error not_told_yet"
 shown_text Waits = codes "wait"
 shown_text Spends = codes "error stamps_spent"
 

@@ -1,6 +1,7 @@
 -- What the functions do that play a line at a node.
-use Rattle.std.specs.Prelude.{ℕ, true, false, ◌≡◌, ◌≢◌, ◌⊎◌, map, flat_map, string_bytes, codes, bytes_eq, Bool, List, [], ◌∷◌, ◌++◌, Option, Some, None, Result, Ok, Err, if◌then◌else◌}
+use Rattle.std.specs.Prelude.{ℕ, true, false, ◌≡◌, ◌≢◌, ◌⊎◌, map, flat_map, string_bytes, codes, Bool, List, [], ◌∷◌, ◌++◌, Option, Some, None, Result, Ok, Err, if◌then◌else◌}
 use Rattle.std.specs.List.{list_all}
+use Rattle.term.specs.Nodes.{creation_of}
 use Rattle.std.specs.Io.KnownBytes.{Appends, Consumes, Keeps}
 use Rattle.letter_lines.specs.declared.faults.LetterFault.TheVariants as letter
 use Rattle.text_lines.specs.declared.lines.Line.{Line}
@@ -11,13 +12,14 @@ use Rattle.node_loop.specs.declared.fault.TurnFault.TheVariants.{StampsSpent, Me
 use Rattle.node_loop.specs.Held.{Looping}
 use Rattle.node_loop.specs.Steps.{Outcome}
 use Rattle.wire_end.specs.declared.faults.HearFault.{HearFault}
-use Rattle.wire_end.specs.declared.faults.HearFault.TheVariants.{NoSuchNode, Gap, Part}
+use Rattle.wire_end.specs.declared.faults.HearFault.TheVariants.{NoSuchNode, Gap, Stray, Part}
 use Rattle.node_port.specs.Commands.{Taken, is_done}
 use Rattle.node_port.specs.Deeds.{Stand, Deed, DoesAll, BreaksOff, IsAllTold, changes_by, replies_by, all_go_on, is_still}
 use Rattle.node_port.specs.Edits.{Changed, changed_lines}
 use Rattle.node_port.specs.Playing.{Gives, Printed, PlaysLine, PlaysAll, EndsFor, said, spent, printed_text}
-use Rattle.node_port.specs.Ran.{Ends, first_text, opened_so}
-use Rattle.node_port.specs.Shown.{Shown, Tells, Gaps, Misses, Spends, line_fault_of, shown_lines}
+use Rattle.node_port.specs.Beginnings.{IsBeginning}
+use Rattle.node_port.specs.Ran.{Ends, Opens, Founds, Behind, Plainly, IsPlain, first_text, opened_so}
+use Rattle.node_port.specs.Shown.{Shown, Tells, Gaps, Strays, Misses, Spends, line_fault_of, shown_lines}
 use Rattle.node_port.specs.Shown as shown
 use Rattle.node_port.specs.declared.output.Output.{Output}
 use Rattle.node_port.specs.declared.port.Port.{Port}
@@ -91,6 +93,7 @@ pub record Settles (standing : Standing) (a b : Port) : Type 0 where
 -- a line of a link, or the word that a node is gone, isn't taken for this fault, and the node says so; where memory was refused it ends
 abbrev pub RefusesFor : HearFault → ℕ → ℕ → Standing → Port → Port → Type 0
 RefusesFor Gap from number standing a b = (standing ≡ Broken) × Grows [] (Gaps from number ∷ []) a.output b.output
+RefusesFor Stray from number standing a b = (standing ≡ Runs) × Grows [] (Strays ∷ []) a.output b.output
 RefusesFor NoSuchNode from number standing a b = (standing ≡ Runs) × Grows [] (Misses ∷ []) a.output b.output
 RefusesFor (Part f) from number standing a b =
     (standing ≡ Runs) × (f ≢ letter.Memory) × Grows [] (shown.Refuses None (line_fault_of f) ∷ []) a.output b.output
@@ -152,51 +155,57 @@ pub record PrintsPart (bytes : List ℕ) (a : Stand) (old new : Option (List ℕ
   pub plays : PlaysLine bytes standing a p stand
   pub wrote : AppendsPart old new (printed_text p)
 
--- the first line opens a node of a world: it founds its cluster, or this line is its first
-abbrev pub OpensBy : Bool → ℕ → List ℕ → List ℕ → Standing → Stand → Option (List ℕ) → Option (List ℕ) → Type 0
-OpensBy true node world bytes standing b old new =
-    (standing ≡ Runs) × (b ≡ opened_so node world true) × Appends old new (first_text true node)
-OpensBy false node world bytes standing b old new = PrintsLine bytes standing (opened_so node world false) b old new
+-- the first line opens a node of a world so: it founds its cluster, or tells who has left, or is the first that is done
+abbrev pub OpenedBy : Opens → ℕ → List ℕ → List ℕ → Standing → Stand → Option (List ℕ) → Option (List ℕ) → Type 0
+OpenedBy Founds node names bytes standing b old new = (bytes ≡ codes "founds") × (creation_of node ≡ 1)
+    × (standing ≡ Runs) × (b ≡ opened_so node names Founds) × Appends old new (first_text Founds node)
+OpenedBy (Behind beginning) node names bytes standing b old new =
+    IsBeginning node names bytes beginning × (standing ≡ Runs) × (b ≡ opened_so node names (Behind beginning)) × Keeps old new
+OpenedBy Plainly node names bytes standing b old new =
+    IsPlain node names bytes × PrintsLine bytes standing (opened_so node names Plainly) b old new
 
 -- a node that founds its cluster: how it stands is to be printed
-pub record FoundsBy (node : ℕ) (world : List ℕ) (port : Port) : Type 0 where
-  pub opened : stand_of port ≡ opened_so node world true
-  pub changes_are : string_bytes port.output.changes ≡ first_text true node
+pub record FoundsBy (node : ℕ) (names : List ℕ) (port : Port) : Type 0 where
+  pub opened : stand_of port ≡ opened_so node names Founds
+  pub changes_are : string_bytes port.output.changes ≡ first_text Founds node
   pub answers_are : string_bytes port.output.answers ≡ []
 
 -- and where that was printed
-abbrev pub Founds : ℕ → List ℕ → Option (List ℕ) → Option (List ℕ) → Result (Port × Standing) StreamFault → Type 0
-Founds node world old new (Ok r) =
-    (r.1 ≡ Runs) × (stand_of r.0 ≡ opened_so node world true) × IsEmpty r.0.output × Appends old new (first_text true node)
-Founds node world old new (Err fault) = AppendsPart old new (first_text true node)
+abbrev pub HasFounded : ℕ → List ℕ → Option (List ℕ) → Option (List ℕ) → Result (Port × Standing) StreamFault → Type 0
+HasFounded node names old new (Ok r) =
+    (r.1 ≡ Runs) × (stand_of r.0 ≡ opened_so node names Founds) × IsEmpty r.0.output × Appends old new (first_text Founds node)
+HasFounded node names old new (Err fault) = AppendsPart old new (first_text Founds node)
 
 -- or it stops there
-abbrev pub StopsBy : Bool → ℕ → List ℕ → List ℕ → Option (List ℕ) → Option (List ℕ) → Type 0
-StopsBy true node world bytes old new = AppendsPart old new (first_text true node)
-StopsBy false node world bytes old new =
-    PrintsPart bytes (opened_so node world false) old new ⊎ Keeps old new
+abbrev pub StoppedBy : Opens → ℕ → List ℕ → List ℕ → Option (List ℕ) → Option (List ℕ) → Type 0
+StoppedBy Founds node names bytes old new = (bytes ≡ codes "founds") × (creation_of node ≡ 1) × AppendsPart old new (first_text Founds node)
+StoppedBy (Behind beginning) node names bytes old new = Keeps old new
+StoppedBy Plainly node names bytes old new =
+    (IsPlain node names bytes × PrintsPart bytes (opened_so node names Plainly) old new) ⊎ Keeps old new
 
 -- a node is opened by its first line, and goes on behind it
-pub record RunsFrom (node : ℕ) (world bytes : List ℕ) (input rest old new : Option (List ℕ)) (in_order : Bool) : Type 0 where
+pub record RunsFrom (node : ℕ) (names bytes : List ℕ) (input rest old new : Option (List ℕ)) (in_order : Bool) : Type 0 where
+  pub how : Opens
   pub standing : Standing
   pub first : Stand
   pub mid : Option (List ℕ)
-  pub opens : OpensBy (bytes_eq bytes (codes "founds")) node world bytes standing first old mid
+  pub opens : OpenedBy how node names bytes standing first old mid
   pub last : Stand
   pub goes : GoesBehind standing in_order first input rest mid new last
 
 -- or it stops behind it
-pub record StopsPast (node : ℕ) (world bytes : List ℕ) (input rest old new : Option (List ℕ)) : Type 0 where
+pub record StopsPast (node : ℕ) (names bytes : List ℕ) (input rest old new : Option (List ℕ)) : Type 0 where
+  pub how : Opens
   pub standing : Standing
   pub first : Stand
   pub mid : Option (List ℕ)
-  pub opens : OpensBy (bytes_eq bytes (codes "founds")) node world bytes standing first old mid
+  pub opens : OpenedBy how node names bytes standing first old mid
   pub stops : StopsBehind standing first input rest mid new
 
 -- or in it, before any other line is read
 abbrev pub StopsFrom : ℕ → List ℕ → List ℕ → Option (List ℕ) → Option (List ℕ) → Option (List ℕ) → Option (List ℕ) → Type 0
-StopsFrom node world bytes input rest old new =
-    ((rest ≡ input) × StopsBy (bytes_eq bytes (codes "founds")) node world bytes old new) ⊎ StopsPast node world bytes input rest old new
+StopsFrom node names bytes input rest old new =
+    ((rest ≡ input) × (how : Opens) × StoppedBy how node names bytes old new) ⊎ StopsPast node names bytes input rest old new
 
 -- the next line is read, or there is none
 abbrev pub TakesNext : Option (List ℕ) → Option (List ℕ) → Option Line → Type 0

@@ -9,6 +9,7 @@ ghost use Rattle.letter_lines.specs.Grammar.{TextReads};
 ghost use Rattle.node_port.specs.Asking.{AsksAsScript, IsAsked, Reader, TextAsksFor, WordsAskFor, begins_as, is_call_word as any_call_word, meant, meant_by, own_bytes, reads_as, process_first, process_second, with_node};
 ghost use Rattle.node_port.specs.Numbers.{SpellsNumber, SpellsNoNumber};
 ghost use Rattle.node_port.specs.Shown.{line_fault_of};
+ghost use Rattle.node_port.specs.Beginnings.{IsBeginText, IsBeginLine};
 ghost use Rattle.node_port.specs.Commands.{IsCut, HasNoCut, TellsLine, TellsNoLine, TellsNoPart, IsTagged, HasNoTag, Says, SaysNothing, Refuses, IsRefused};
 
 use crate::numbers::parse_number;
@@ -16,8 +17,8 @@ use arrayvec::ArrayVec;
 use command_lines::{Event, LineFault, Task, WorldEvent, read_words, text_of};
 use letter_lines::{LetterFault, Part, parts_are_exact, read_part};
 use std::alloc::{AllocError, Global};
-use term::{Node, NodeName, Pid, parse_node};
-use text_lines::{Line, MOST_WORDS, first_words};
+use term::{MOST_WORDS, Node, NodeName, NodeSet, Pid, parse_node, parse_node_set};
+use text_lines::{Line, first_words};
 use wire_end::LinkLine;
 
 /// What a line says.
@@ -31,8 +32,19 @@ pub(crate) enum Command {
     Letter(Node, LinkLine),
     /// Another node is gone without a word.
     Down(Node),
+    /// The next node of another one's name has started.
+    Started(Node),
     /// Time went by.
     Tick,
+}
+
+/// What the first line of a node says that starts where others have left.
+#[derive(Drop)]
+pub(crate) struct Beginning {
+    /// The stamp above which its steps are, and behind which the notices of those who left come.
+    pub(crate) stamp: u64,
+    /// Who has left: of each name the last node.
+    pub(crate) left: NodeSet,
 }
 
 /// Why a line is refused, and the tag under which that is answered, where it has one.
@@ -166,7 +178,7 @@ fn own_text(alloc: Global, own: Option<&Pid>) -> Result<String, AllocError>
 
 /// The first words of a text, as they are meant where this process was spawned last.
 fn meant_words<'a>(text: &'a str, own: &'a str) -> ArrayVec<&'a str, MOST_WORDS>
-    ensures { map (λ word. word.now) result.items ≡ meant own.now (take 7 (words_in text.now)) }
+    ensures { map (λ word. word.now) result.items ≡ meant own.now (take MOST_WORDS (words_in text.now)) }
 {
     let mut words = first_words(text);
     spell_own(&mut words, own);
@@ -300,6 +312,20 @@ fn behind_down(text: &str) -> Option<&str>
     text.strip_prefix("down ")
 }
 
+/// What a line says that a node has started, behind its word.
+fn read_started(text: &str) -> Result<Command, LineFault>
+    ensures { (reader : Reader) (bytes : List ℕ) → bytes ≡ codes "started " ++ text.now → MatchResult result (Says reader bytes) (λ _. SaysNothing bytes) }
+{
+    Ok(Command::Started(parse_node(text)?))
+}
+
+/// What stands behind the word of a line that a node has started.
+fn behind_started(text: &str) -> Option<&str>
+    ensures { MatchOption result ((rest : List ℕ) → text.now ≢ codes "started " ++ rest) (λ rest. text.now ≡ codes "started " ++ rest.now) }
+{
+    text.strip_prefix("started ")
+}
+
 /// What a line says that has no tag.
 fn read_untagged(text: &str) -> Result<Command, LineFault>
     ensures { (reader : Reader) → MatchResult result (Says reader text.now) (λ _. SaysNothing text.now) }
@@ -309,6 +335,9 @@ fn read_untagged(text: &str) -> Result<Command, LineFault>
     }
     if let Some(rest) = behind_down(text) {
         return read_down(rest);
+    }
+    if let Some(rest) = behind_started(text) {
+        return read_started(rest);
     }
     if text == "tick" {
         Ok(Command::Tick)
@@ -377,5 +406,42 @@ pub(crate) fn says_founds(line: &Line) -> bool
     match text_of(line) {
         Ok(text) => text == "founds",
         Err(_) => false,
+    }
+}
+
+/// What a text says of who has left, behind its word.
+fn read_left(text: &str) -> Option<Beginning>
+    ensures { (bytes : List ℕ) → bytes ≡ codes "behind " ++ text.now
+        → MatchOption result ((stamp : ℕ) (left : List ℕ) → IsBeginText bytes stamp left → ⊥) (λ b. IsBeginText bytes b.stamp b.left) }
+{
+    let (stamp, left) = cut(text)?;
+    let stamp = parse_number(stamp)?;
+    let left = parse_node_set(left)?;
+    Some(Beginning { stamp, left })
+}
+
+/// What stands behind the word of a line that says who has left.
+fn behind_beginning(text: &str) -> Option<&str>
+    ensures { MatchOption result ((rest : List ℕ) → text.now ≢ codes "behind " ++ rest) (λ rest. text.now ≡ codes "behind " ++ rest.now) }
+{
+    text.strip_prefix("behind ")
+}
+
+/// What a text says of who has left when a node starts, if it says that.
+fn read_beginning(text: &str) -> Option<Beginning>
+    ensures { MatchOption result ((stamp : ℕ) (left : List ℕ) → IsBeginText text.now stamp left → ⊥) (λ b. IsBeginText text.now b.stamp b.left) }
+{
+    let rest = behind_beginning(text)?;
+    read_left(rest)
+}
+
+/// What a line says of who has left when a node starts, if it says that.
+pub(crate) fn says_who_left(line: &Line) -> Option<Beginning>
+    ensures { (bytes : List ℕ) → IsKept bytes line.now
+        → MatchOption result ((stamp : ℕ) (left : List ℕ) → IsBeginLine bytes stamp left → ⊥) (λ b. IsBeginLine bytes b.stamp b.left) }
+{
+    match text_of(line) {
+        Ok(text) => read_beginning(text),
+        Err(_) => None,
     }
 }

@@ -3,7 +3,7 @@ ghost use Rattle.std.specs.Prelude.{◌≡◌, ◌++◌, ◌∷◌, codes, map, 
 ghost use Rattle.command_lines.specs.NodeEventsSeen.{answer_of};
 ghost use Rattle.command_lines.specs.Printing.{ended, reply_text as any_reply_text};
 ghost use Rattle.node_loop.specs.Told.{outcome_of, told_by};
-ghost use Rattle.node_port.specs.Shown.{Clears, Stands, Tells, Counts, Refuses, Gaps, Misses, Waits, Spends, shown_line, shown_lines, standing_word as any_standing_word, task_word, outcome_text as any_outcome_text};
+ghost use Rattle.node_port.specs.Shown.{Clears, Stands, Tells, Counts, Refuses, Gaps, Strays, Misses, Untells, Waits, Spends, shown_line, shown_lines, standing_word as any_standing_word, task_word, outcome_text as any_outcome_text};
 ghost use Rattle.node_port.specs.Edits.{put_of, change_line, edit_lines};
 
 use command_lines::{Answer, LineFault, answer_line, step_line};
@@ -149,6 +149,20 @@ pub(crate) fn push_gap(text: &mut String, from: &Node, number: u64) -> Result<()
     ensures { OnOk result (string_bytes text.new ≡ string_bytes text.old ++ shown_line (Gaps from.now number)) }
 {
     writeln!(text, "gap {from} {number}")
+}
+
+/// Puts behind a text that a letter is one that no node says.
+pub(crate) fn push_stray(text: &mut String) -> Result<(), AllocError>
+    ensures { OnOk result (string_bytes text.new ≡ string_bytes text.old ++ shown_line Strays) }
+{
+    text.push_str("error stray_letter\n")
+}
+
+/// Puts behind a text that the node wasn't told that another has left.
+pub(crate) fn push_untold(text: &mut String) -> Result<(), AllocError>
+    ensures { OnOk result (string_bytes text.new ≡ string_bytes text.old ++ shown_line Untells) }
+{
+    text.push_str("error not_told_yet\n")
 }
 
 /// Puts behind a text that no other node of the world is meant.

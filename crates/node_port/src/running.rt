@@ -1,24 +1,25 @@
 //! A node from its first line to its end.
-ghost use Rattle.std.specs.Prelude.{◌≡◌, ◌⊎◌, ◌++◌, ℕ, List, true, false, codes, bytes_eq, MatchResult, OnOk, IfOk};
+ghost use Rattle.std.specs.Prelude.{◌≡◌, ◌==◌, ◌&&◌, ◌⊎◌, ◌++◌, ℕ, List, true, false, codes, bytes_eq, MatchOption, MatchResult, OnOk, IfOk, IfSome};
 ghost use Rattle.std.specs.List.{All};
 ghost use Rattle.std.specs.Io.Buffered.{reader_remaining};
 ghost use Rattle.std.specs.Io.KnownBytes.{Keeps};
 ghost use Rattle.text_lines.specs.Lines.{IsKept};
-ghost use Rattle.term.specs.Nodes.{IsFirst};
+ghost use Rattle.term.specs.Nodes.{IsFirst, name_of, creation_of};
 ghost use Rattle.term.specs.NodeSets.{set_of};
 ghost use Rattle.node_port.specs.Asking.{reader_of};
+ghost use Rattle.node_port.specs.Beginnings.{IsBeginning, Beginning as ABeginning, fits as any_fits};
 ghost use Rattle.node_port.specs.Commands.{Taken, IsTaken};
 ghost use Rattle.node_port.specs.Playing.{spent, waiting};
-ghost use Rattle.node_port.specs.Ran.{opened_so, NodeRan, NodeStopped};
-ghost use Rattle.node_port.specs.Working.{stand_of, IsEmpty, PlaysAt, StopsOn, PrintsLine, PrintsPart, OpensBy, StopsBy, TakesNext, StopsNext, FoundsBy, Founds, PlaysTo, GoesBehind, StopsBehind, RunsFrom, StopsFrom};
+ghost use Rattle.node_port.specs.Ran.{opened_so, Opens, Behind, Plainly, Ends, NodeRan, NodeStopped};
+ghost use Rattle.node_port.specs.Working.{stand_of, IsEmpty, PlaysAt, PlaysOn, StopsOn, PrintsLine, PrintsPart, OpenedBy, StoppedBy, TakesNext, StopsNext, FoundsBy, HasFounded, PlaysTo, GoesBehind, StopsBehind, RunsFrom, StopsFrom};
 ghost use Rattle.node_port.specs.declared.port.Standing.TheVariants.{Runs};
 
-use crate::commands::{read_command, says_founds};
-use crate::port::{Port, Standing};
+use crate::commands::{Beginning, read_command, says_founds, says_who_left};
+use crate::port::{Port, Standing, before, fits, stamp_behind};
 use std::alloc::{AllocError, Global};
 use std::io::{BufReader, Read, Write};
-use term::{Node, NodeSet};
-use text_lines::{Line, MOST_LINES, StreamFault, hand_on, read_line};
+use term::{MOST_LINES, Node, NodeSet};
+use text_lines::{Line, StreamFault, hand_on, read_line};
 
 /// The next line of a reader, or none at its end. What was written is handed on before the reader waits.
 fn next_line<R: Read, W: Write>(
@@ -116,7 +117,7 @@ fn open_founder(alloc: Global, node: &Node, world: &NodeSet) -> Result<Port, All
     requires first { All IsFirst world.now }
     ensures { IfOk result (FoundsBy node.now world.now) }
 {
-    let mut port = Port::open(alloc, node, world, true)?;
+    let mut port = Port::found(alloc, node, world)?;
     port.show_state()?;
     Ok(port)
 }
@@ -130,53 +131,102 @@ fn found<W: Write>(
 ) -> Result<(Port, Standing), StreamFault>
     requires known { set_of world.now node.now ≡ true }
     requires first { All IsFirst world.now }
-    ensures { Founds node.now world.now (W.contents writer.old) (W.contents writer.new) result }
+    ensures { HasFounded node.now world.now (W.contents writer.old) (W.contents writer.new) result }
 {
     let mut port = open_founder(alloc, node, world)?;
     port.write(writer)?;
     Ok((port, Standing::Runs))
 }
 
-/// Opens a node that is lone, and does its first line.
-fn open_lone<W: Write>(
+/// Opens a node of which no line says how it begins, and does its first line.
+fn open_plainly<W: Write>(
     alloc: Global,
     node: &Node,
-    world: &NodeSet,
+    names: &NodeSet,
     line: &Line,
     writer: &mut W,
 ) -> Result<(Port, Standing), StreamFault>
-    requires known { set_of world.now node.now ≡ true }
-    requires first { All IsFirst world.now }
+    requires known { set_of names.now (name_of node.now) ≡ true }
+    requires first { All IsFirst names.now }
     ensures opened { (bytes : List ℕ) → IsKept bytes line.now → MatchResult result
-        (λ r. PrintsLine bytes r.1 (opened_so node.now world.now false) (stand_of r.0) (W.contents writer.old) (W.contents writer.new))
-        (λ fault. PrintsPart bytes (opened_so node.now world.now false) (W.contents writer.old) (W.contents writer.new)
+        (λ r. PrintsLine bytes r.1 (opened_so node.now names.now Plainly) (stand_of r.0) (W.contents writer.old) (W.contents writer.new))
+        (λ fault. PrintsPart bytes (opened_so node.now names.now Plainly) (W.contents writer.old) (W.contents writer.new)
         ⊎ Keeps (W.contents writer.old) (W.contents writer.new)) }
     ensures empty { IfOk result (λ r. IsEmpty r.0.output) }
 {
-    let mut port = Port::open(alloc, node, world, false)?;
+    let mut port = Port::open(alloc, node, names, 0, &before(node))?;
     let standing = play_line(alloc, &mut port, line, writer)?;
     Ok((port, standing))
 }
 
-/// Opens the node by its first line: that it founds its cluster, or anything else, which is done then. Gives how it stands behind it.
+/// How a line says that this node of a world with these names begins, if it says that: the stamp above which its steps are, and who has left.
+fn beginning_of(line: &Line, node: &Node, names: &NodeSet) -> Option<Beginning>
+    ensures fit { IfSome result (λ b. any_fits node.now names.now b.left ≡ true) }
+    ensures begins { (bytes : List ℕ) → IsKept bytes line.now → MatchOption result
+        ((b : ABeginning) → IsBeginning node.now names.now bytes b → ⊥)
+        (λ b. IsBeginning node.now names.now bytes (record { stamp = b.stamp; left = b.left })) }
+{
+    let said = says_who_left(line)?;
+    if !fits(node, names, &said.left) {
+        return None;
+    }
+    let stamp = stamp_behind(said.stamp, &said.left)?;
+    Some(Beginning {
+        stamp,
+        left: said.left,
+    })
+}
+
+/// Opens a node of which a line says how it begins. Nothing is written of that.
+fn open_behind(
+    alloc: Global,
+    node: &Node,
+    names: &NodeSet,
+    beginning: &Beginning,
+) -> Result<(Port, Standing), StreamFault>
+    requires known { set_of names.now (name_of node.now) ≡ true }
+    requires first { All IsFirst names.now }
+    requires fit { any_fits node.now names.now beginning.now.left ≡ true }
+    ensures opened { IfOk result (λ r. (r.1 ≡ Runs)
+        × (stand_of r.0 ≡ opened_so node.now names.now (Behind (record { stamp = beginning.now.stamp; left = beginning.now.left })))) }
+    ensures empty { IfOk result (λ r. IsEmpty r.0.output) }
+{
+    let Beginning { stamp, left } = beginning;
+    let port = Port::open(alloc, node, names, *stamp, left)?;
+    Ok((port, Standing::Runs))
+}
+
+/// Whether a line says that a first node founds its cluster.
+fn founds(line: &Line, node: &Node) -> bool
+    ensures says { (bytes : List ℕ) → IsKept bytes line.now
+        → result ≡ ((creation_of node.now == 1) && bytes_eq bytes (codes "founds")) }
+    ensures first { result ≡ true → creation_of node.now ≡ 1 }
+{
+    node.creation() == 1 && says_founds(line)
+}
+
+/// Opens the node by its first line: that it founds its cluster; or who has left; or anything else, which is done then. Gives how it stands
+/// behind it.
 fn open_by<W: Write>(
     alloc: Global,
     node: &Node,
-    world: &NodeSet,
+    names: &NodeSet,
     line: &Line,
     writer: &mut W,
 ) -> Result<(Port, Standing), StreamFault>
-    requires known { set_of world.now node.now ≡ true }
-    requires first { All IsFirst world.now }
+    requires known { set_of names.now (name_of node.now) ≡ true }
+    requires first { All IsFirst names.now }
     ensures opened { (bytes : List ℕ) → IsKept bytes line.now → MatchResult result
-        (λ r. OpensBy (bytes_eq bytes (codes "founds")) node.now world.now bytes r.1 (stand_of r.0) (W.contents writer.old) (W.contents writer.new))
-        (λ fault. StopsBy (bytes_eq bytes (codes "founds")) node.now world.now bytes (W.contents writer.old) (W.contents writer.new)) }
+        (λ r. (how : Opens) × OpenedBy how node.now names.now bytes r.1 (stand_of r.0) (W.contents writer.old) (W.contents writer.new))
+        (λ fault. (how : Opens) × StoppedBy how node.now names.now bytes (W.contents writer.old) (W.contents writer.new)) }
     ensures empty { IfOk result (λ r. IsEmpty r.0.output) }
 {
-    if says_founds(line) {
-        found(alloc, node, world, writer)
-    } else {
-        open_lone(alloc, node, world, line, writer)
+    if founds(line, node) {
+        return found(alloc, node, names, writer);
+    }
+    match beginning_of(line, node, names) {
+        Some(beginning) => open_behind(alloc, node, names, &beginning),
+        None => open_plainly(alloc, node, names, line, writer),
     }
 }
 
@@ -226,48 +276,49 @@ fn run_on<R: Read, W: Write>(
 fn run_from<R: Read, W: Write>(
     alloc: Global,
     node: &Node,
-    world: &NodeSet,
+    names: &NodeSet,
     line: &Line,
     reader: &mut BufReader<R, Global>,
     writer: &mut W,
 ) -> Result<bool, StreamFault>
-    requires known { set_of world.now node.now ≡ true }
-    requires first { All IsFirst world.now }
+    requires known { set_of names.now (name_of node.now) ≡ true }
+    requires first { All IsFirst names.now }
     ensures { (bytes : List ℕ) → IsKept bytes line.now → MatchResult result
-        (RunsFrom node.now world.now bytes (reader_remaining R.remaining reader.old) (reader_remaining R.remaining reader.new)
+        (RunsFrom node.now names.now bytes (reader_remaining R.remaining reader.old) (reader_remaining R.remaining reader.new)
         (W.contents writer.old) (W.contents writer.new))
-        (λ fault. StopsFrom node.now world.now bytes (reader_remaining R.remaining reader.old) (reader_remaining R.remaining reader.new)
+        (λ fault. StopsFrom node.now names.now bytes (reader_remaining R.remaining reader.old) (reader_remaining R.remaining reader.new)
         (W.contents writer.old) (W.contents writer.new)) }
 {
-    let (mut port, standing) = open_by(alloc, node, world, line, writer)?;
+    let (mut port, standing) = open_by(alloc, node, names, line, writer)?;
     run_on(alloc, &mut port, standing, reader, writer)
 }
 
-/// Runs this node of a world of first nodes by the lines of a reader, until they end or the node has left, and writes what comes of
+/// Runs this node of a world with these names by the lines of a reader, until they end or the node has left, and writes what comes of
 /// each: whether each line of a link was the next of it, and each step had a stamp. A line that is refused changes nothing. The first
-/// line may say that the node founds its cluster; else it is lone.
+/// line may say that a first node founds its cluster, or, of any, who has left; else it is lone, and a later node of its name knows that the
+/// one before it has left.
 ///
 /// What was written is handed on before the reader waits for more, and in the end. Where lines can't be read or written, or memory is
 /// refused, a part is written of what those print that were done. The contract can't say when a reader, a writer or an allocator fails.
 pub fn run_node<R: Read, W: Write>(
     alloc: Global,
     node: &Node,
-    world: &NodeSet,
+    names: &NodeSet,
     reader: &mut BufReader<R, Global>,
     writer: &mut W,
 ) -> Result<bool, StreamFault>
-    requires known { set_of world.now node.now ≡ true }
-    requires first { All IsFirst world.now }
+    requires known { set_of names.now (name_of node.now) ≡ true }
+    requires first { All IsFirst names.now }
     ensures { MatchResult result
-        (NodeRan node.now world.now (reader_remaining R.remaining reader.old) (reader_remaining R.remaining reader.new)
+        (NodeRan node.now names.now (reader_remaining R.remaining reader.old) (reader_remaining R.remaining reader.new)
         (W.contents writer.old) (W.contents writer.new))
-        (NodeStopped node.now world.now (reader_remaining R.remaining reader.old) (reader_remaining R.remaining reader.new)
+        (NodeStopped node.now names.now (reader_remaining R.remaining reader.old) (reader_remaining R.remaining reader.new)
         (W.contents writer.old) (W.contents writer.new)) }
 {
     // The set shows that its nodes rise.
-    let _count = world.len();
+    let _count = names.len();
     let Some(first) = next_line(Vec::new(alloc), reader, writer)? else {
         return Ok(true);
     };
-    run_from(alloc, node, world, &first, reader, writer)
+    run_from(alloc, node, names, &first, reader, writer)
 }

@@ -7,14 +7,18 @@ use Rattle.shared_table.specs.declared.Answer.{Answer}
 use Rattle.shared_table.specs.declared.Ticket.{Ticket}
 use Rattle.shared_table.specs.declared.Effect.TheVariants.{Answered}
 use Rattle.shared_table.specs.NodeEventsSeen.{answer_of, reply_of}
-use Rattle.shared_table.proofs.Answers.{next_is_logged}
+use Rattle.shared_table.specs.Readers.{Seen}
+use Rattle.shared_table.proofs.Answers.{told_answers_are_logged}
 use Rattle.node_seats.specs.Fences.{HasLogged, HasGranted, grants}
 use Rattle.node_seats.specs.Replies.{IsToldTo}
 
-pub logged_where_told : (name : ℕ) (ticket : Ticket) (stamp : ℕ) (answer : Answer) (length : ℕ)
-    → IsToldTo name ticket (Ok (Answered stamp answer)) length → HasLogged name stamp (answer_of answer)
-logged_where_told name ticket stamp answer length told = ∥∥₁_map told
-    (λ t. record { node = t.node; came = t.came; logged = next_is_logged name t.node t.came ticket stamp (answer_of answer) t.later t.next })
+pub logged_where_told : (name : ℕ) (ticket : Ticket) (stamp : ℕ) (answer : Answer) (s : Seen)
+    → IsToldTo name ticket (Ok (Answered stamp answer)) s → HasLogged name stamp (answer_of answer)
+logged_where_told name ticket stamp answer s told = ∣ record {
+  node = told.moment.node;
+  came = told.came;
+  logged = told_answers_are_logged name told.moment.node told.came ticket stamp (answer_of answer) told.held;
+} ∣₁
 
 -- what was granted last is logged, behind an answer that is
 pub granted_so : (name stamp : ℕ) (answer : Answer) (sets : Bool) (last : Option ℕ) → HasLogged name stamp (answer_of answer)

@@ -10,3 +10,4 @@ mod Sittings
 pub mod Telling
 pub mod ShownLengths
 mod Noting
+mod Lasting

@@ -1,5 +1,5 @@
 -- Behind how long a log a node has shown its readers an edition.
-use Rattle.std.proofs.Common.{ℕ, [], ap, sym, ◌∙◌, subst, refl}
+use Rattle.std.proofs.Common.{ℕ, ◌≡◌, [], ap, sym, ◌∙◌, subst, refl}
 use Rattle.shared_table.specs.declared.Edition.{Edition}
 use Rattle.shared_table.specs.Coming.{begun, IsLoopOf}
 use Rattle.shared_table.specs.Openings.{opening_core}
@@ -33,3 +33,10 @@ still_told (Owner owner) name x old new f h = read_told name old new f.0
 still_told Left name x old new f h = read_told name old new f.0
 still_told Behind name x old new f h = subst (λ (s : Seen). HasShown name s.told) (sym f.same) h
 still_told Gone name x old new f h = subst (λ (s : Seen). HasShown name s.told) (sym f) h
+
+-- the book is the same
+pub same_book : (r : Lookup) (name : ℕ) (x : Text) (old new : Seen) → Finds r name x old new → new.known.book ≡ old.known.book
+same_book (Owner owner) name x old new f = f.0.book
+same_book Left name x old new f = f.0.book
+same_book Behind name x old new f = ap (λ (s : Seen). s.known.book) f.same
+same_book Gone name x old new f = ap (λ (s : Seen). s.known.book) f

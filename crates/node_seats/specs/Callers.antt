@@ -1,5 +1,6 @@
 -- What contracts see of a caller, and of the hub that it shares.
-use Rattle.std.specs.Prelude.{ℕ, ◌+◌, ◌-◌, ◌^◌, ◌≡◌, ◌≤◌, ◌⊎◌, Option, Some, None, List}
+use Rattle.std.specs.Prelude.{ℕ, ◌+◌, ◌≡◌, ◌≤◌, ◌⊎◌, Option, Some, None, List}
+use mathlib.Core.List.{IsPrefix}
 use Rattle.shared_table.specs.declared.Event.{Event}
 use Rattle.shared_table.specs.declared.Ticket.{Ticket}
 use Rattle.shared_table.specs.declared.Item.{Item}
@@ -9,7 +10,7 @@ use Rattle.node_seats.specs.declared.fault.SeatFault.{SeatFault}
 use Rattle.node_seats.specs.declared.fault.SeatFault.TheVariants.{NoSuchNode, NodeLeft, Closed, Step}
 use Rattle.node_seats.specs.declared.hub.Hub.{Hub}
 use Rattle.node_seats.specs.declared.place.Place.{Place}
-use Rattle.node_seats.specs.declared.place.TheConstants.{MOST_SEATS}
+use Rattle.term.specs.declared.limits.TheConstants.{MOST_SEATS, SEAT_NUMBERS}
 use Rattle.shared_table.specs.Readers.{Seen}
 use Rattle.node_seats.specs.Lines.{with_parcel, events_on}
 use Rattle.node_seats.specs.Addresses.{Inbox}
@@ -26,13 +27,9 @@ inbox_of c = record { node = c.node; room = c.line.room; book = c.reader.seen.kn
 abbrev pub place_of : Caller → Place
 place_of c = c.place
 
--- how many numbers seats have
-abbrev pub seat_numbers : ℕ
-seat_numbers = 2 ^ 32 - 8
-
 -- the place of a cluster's own caller at the node with this index
 abbrev pub own_place : ℕ → Place
-own_place index = record { seat = seat_numbers + index; slot = MOST_SEATS + index }
+own_place index = record { seat = SEAT_NUMBERS + index; slot = MOST_SEATS + index }
 
 -- the nodes of a hub's cluster
 abbrev pub nodes_at : Hub → List ℕ
@@ -42,7 +39,7 @@ nodes_at h = h.nodes
 abbrev pub nodes_of : Caller → List ℕ
 nodes_of c = nodes_at c.hub.value
 
--- what it knows of its node's moments, and how much of the node's log it was told of
+-- what it knows of its node's moments, whether it read them or was told of them, and how much of the node's log it was told of
 abbrev pub seen_of : Caller → Seen
 seen_of c = c.reader.seen
 
@@ -50,10 +47,15 @@ seen_of c = c.reader.seen
 abbrev pub told_of : Caller → ℕ
 told_of c = c.reader.seen.told
 
--- it may be told of more, and reads nothing
-pub record Learns (s t : Seen) : Type 0 where
-  pub known : t.known ≡ s.known
+-- it knows of more, of the same book
+pub record LearnsMore (s t : Seen) : Type 0 where
+  pub book : t.known.book ≡ s.known.book
+  pub later : IsPrefix s.known.log t.known.log
   pub rises : s.told ≤ t.told
+
+-- or it may have been told of nothing
+abbrev pub Learns : Seen → Seen → Type 0
+Learns s t = (t ≡ s) ⊎ LearnsMore s t
 
 -- the events that it has put into its node's inbox, the oldest first
 abbrev pub asked_by : Caller → List Event

@@ -11,6 +11,7 @@ use Rattle.shared_table.specs.NodeEventsSeen.{reply_of}
 use Rattle.shared_table.specs.Answers.{LogsAnswer}
 use Rattle.shared_table.specs.Coming.{IsLoopOf}
 use Rattle.shared_table.specs.Held.{Looping}
+use Rattle.term.specs.declared.limits.TheConstants.{MOST_NODES}
 
 -- a loop of this node came to where its log has a step of this stamp that gives this answer
 pub record LogsIt (name stamp : ℕ) (answer : AnyAnswer) : Type 0 where
@@ -52,6 +53,6 @@ granted_by call stamp answer last = if sets_lock call && grants (reply_of answer
 abbrev pub place_among : List ℕ → ℕ → ℕ
 place_among nodes node = unwrap_or (position (λ n. n == node) nodes) 0
 
--- the number of such a step of a node among these: its stamp, and behind it the place of its node, of which there are eight
+-- the number of such a step of a node among these: its stamp, and behind it the place of its node, of which there are so many
 abbrev pub fence_of : List ℕ → ℕ → Option ℕ → Option ℕ
-fence_of nodes node granted = option_map (λ stamp. stamp * 8 + place_among nodes node) granted
+fence_of nodes node granted = option_map (λ stamp. stamp * MOST_NODES + place_among nodes node) granted

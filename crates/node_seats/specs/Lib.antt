@@ -15,3 +15,5 @@ pub mod Knowing
 pub mod Holders
 pub mod Stops
 pub mod Departures
+pub mod Hosts
+pub mod Lasting

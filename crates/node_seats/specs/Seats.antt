@@ -90,10 +90,11 @@ with_entry e answer s = record s {
   entries = s.entries ++ record { event = At s.node e; answer = answer } ∷ [];
 }
 
--- The loop of the seat's node told the seat so, for what it asked next, under the ticket of that. What the node then showed its readers is
--- behind no more of its log than the seat t was told of, and behind a log of that length it has shown an edition of its table
+-- The loop of the seat's node told the seat so, for what it asked next, under the ticket of that, at one of the moments that the seat t knows: they
+-- are of the node's own book, and begin with those that were known before. What the node then showed its readers is behind no more of its log than
+-- the seat t was told of, and behind a log of that length it has shown an edition of its table
 pub record IsAnswered (s : Sitting) (outcome : Result Effect TaskFault) (t : Sitting) : Type 0 where
-  pub told : IsToldTo s.node (record { seat = s.seat; slot = s.slot; number = length s.asked }) outcome t.seen.told
+  pub told : IsToldTo s.node (record { seat = s.seat; slot = s.slot; number = length s.asked }) outcome t.seen
   pub learns : Learns s.seen t.seen
   pub shown : HasShown s.node t.seen.told
 

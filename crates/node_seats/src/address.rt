@@ -6,20 +6,20 @@ ghost use Rattle.link.specs.Mailboxes.{made_of, taken, root_room, mailbox_room};
 use crate::bell::{Bell, Rest};
 use crate::line::Line;
 use crate::parcel::Parcel;
-use link::{INBOX_ROOM, Mailbox, Root, compare, open};
-use shared_table::Token;
+use crate::slots::{Slot, Slots};
+use link::{Mailbox, Root, compare, open};
 use std::alloc::{AllocError, Global};
 use std::marker::Model;
-use term::Node;
+use term::{INBOX_ROOM, Node};
 
-/// Where a node's inbox is reached: what makes the lines to it. Contracts see whose it is, how many were made, the inbox, and the book of the
-/// node.
+/// Where a node's inbox is reached: what makes the lines to it, and the ways to the slots where it replies. Contracts see whose it is, how many
+/// lines were made, the inbox, and the book of the node.
 #[derive(Drop)]
 pub struct Address<L: Drop> {
     node: Node,
     root: Root<Parcel<L>>,
     bell: Bell,
-    book: Token,
+    slots: Slots,
 }
 
 /// An inbox that was opened: its address, its receiver's end, and the rest of the thread that is to take from it.
@@ -36,17 +36,17 @@ impl<L: Drop> Model for Address<L> {
 
     ghost Value = { Reached L };
 
-    ghost view = { λ a. record { node = a.node; lines = made_of a.root; room = root_room a.root; book = a.book.book } };
+    ghost view = { λ a. record { node = a.node; lines = made_of a.root; room = root_room a.root; book = a.slots } };
 }
 
-/// Opens the inbox of a node, whose moments stand in this book, and whose thread yields so often at most before it sleeps.
+/// Opens the inbox of a node, which replies in these slots, and whose thread yields so often at most before it sleeps.
 pub(crate) fn open_inbox<L: Drop>(
     alloc: Global,
     node: Node,
-    book: Token,
+    slots: Slots,
     yields: u32,
 ) -> Result<Entrance<L>, AllocError>
-    ensures address { IfOk result (λ opened. opened.address ≡ record { node = node; lines = 0; room = mailbox_room opened.mailbox; book = book.book }) }
+    ensures address { IfOk result (λ opened. opened.address ≡ record { node = node; lines = 0; room = mailbox_room opened.mailbox; book = slots }) }
     ensures empty { IfOk result (λ opened. taken opened.mailbox ≡ []) }
     ensures rest { IfOk result (λ opened. opened.rest.yields ≡ yields) }
 {
@@ -57,7 +57,7 @@ pub(crate) fn open_inbox<L: Drop>(
         node,
         root,
         bell,
-        book,
+        slots,
     };
     Ok(Entrance {
         address,
@@ -87,6 +87,14 @@ impl<L: Drop> Address<L> {
         let bell = self.bell.another()?;
         let port = self.root.port()?;
         Ok(Line::new(self.node.copy(), port, bell))
+    }
+
+    /// A way to the slot of this number.
+    pub(crate) fn slot(&mut self, number: u32) -> Result<Slot, AllocError>
+        ensures same { self.new ≡ self.old }
+        ensures slot { IfOk result (λ slot. slot.book ≡ self.old.book) }
+    {
+        self.slots.way(number)
     }
 
     /// Holds what was taken from the inbox against what was put on a line into it: of what came under the line's number, a beginning of

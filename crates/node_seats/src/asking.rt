@@ -4,7 +4,7 @@ ghost use Rattle.shared_table.specs.Events.{knows_contact as knows};
 ghost use Rattle.shared_table.specs.NodeEventsSeen.{answer_of};
 ghost use Rattle.shared_table.specs.declared.Event.TheVariants.{Call as Calls, Exit, Leave};
 ghost use Rattle.shared_table.specs.declared.Effect.TheVariants.{Answered, Made, Left};
-ghost use Rattle.node_seats.specs.Callers.{name_of, inbox_of, place_of, nodes_of, asked_by, seen_of, told_of, ticket_of, task_for, Puts, Learns};
+ghost use Rattle.node_seats.specs.Callers.{name_of, inbox_of, place_of, nodes_of, asked_by, seen_of, ticket_of, task_for, Puts, Learns};
 ghost use Rattle.node_seats.specs.declared.fault.SeatFault.TheVariants.{NoSuchNode};
 ghost use Rattle.node_seats.specs.Faults.{IsAskRefused, MayAsk};
 ghost use Rattle.node_seats.specs.Fences.{HasLogged};
@@ -36,9 +36,9 @@ impl Caller {
         ensures known { IfErr result (λ fault. IsAskRefused fault (knows (nodes_of self.old) (Calls call))) }
         ensures asked { OnOk result (asked_by self.new ≡ asked_by self.old ++ Calls call ∷ []) }
         ensures unanswered { IfErr result (λ fault. MayAsk fault (Calls call) (asked_by self.old) (asked_by self.new)) }
-        ensures told { IfOk result (λ given. IsToldTo (name_of self.old) (ticket_of self.old) (Ok (Answered given.stamp given.answer)) (told_of self.new)) }
+        ensures told { IfOk result (λ given. IsToldTo (name_of self.old) (ticket_of self.old) (Ok (Answered given.stamp given.answer)) (seen_of self.new)) }
         ensures logged { IfOk result (λ given. HasLogged (name_of self.old) given.stamp (answer_of given.answer)) }
-        ensures refused { IfErr result (λ fault. IsFaultTold (name_of self.old) (ticket_of self.old) fault (told_of self.new)) }
+        ensures refused { IfErr result (λ fault. IsFaultTold (name_of self.old) (ticket_of self.old) fault (seen_of self.new)) }
         ensures learns { Learns (seen_of self.old) (seen_of self.new) }
     {
         match self.ask(rt, Event::Call(call))? {
@@ -56,8 +56,8 @@ impl Caller {
         ensures nodes { nodes_of self.new ≡ nodes_of self.old }
         ensures asked { OnOk result (asked_by self.new ≡ asked_by self.old ++ Exit process.now ∷ []) }
         ensures unanswered { IfErr result (λ fault. MayAsk fault (Exit process.now) (asked_by self.old) (asked_by self.new)) }
-        ensures told { OnOk result (IsToldTo (name_of self.old) (ticket_of self.old) (Ok Made) (told_of self.new)) }
-        ensures refused { IfErr result (λ fault. IsFaultTold (name_of self.old) (ticket_of self.old) fault (told_of self.new)) }
+        ensures told { OnOk result (IsToldTo (name_of self.old) (ticket_of self.old) (Ok Made) (seen_of self.new)) }
+        ensures refused { IfErr result (λ fault. IsFaultTold (name_of self.old) (ticket_of self.old) fault (seen_of self.new)) }
         ensures learns { Learns (seen_of self.old) (seen_of self.new) }
     {
         match self.ask(rt, Event::Exit(process.copy()))? {
@@ -76,9 +76,9 @@ impl Caller {
         ensures put { OnOk result (Puts (task_for self.old Leave) self.old self.new) }
         ensures asked { OnOk result (asked_by self.new ≡ asked_by self.old ++ Leave ∷ []) }
         ensures unanswered { IfErr result (λ fault. MayAsk fault Leave (asked_by self.old) (asked_by self.new)) }
-        ensures told { OnOk result (IsToldTo (name_of self.old) (ticket_of self.old) (Ok Left) (told_of self.new)) }
+        ensures told { OnOk result (IsToldTo (name_of self.old) (ticket_of self.old) (Ok Left) (seen_of self.new)) }
         ensures left { OnOk result (HasLeft (name_of self.old)) }
-        ensures refused { IfErr result (λ fault. IsFaultTold (name_of self.old) (ticket_of self.old) fault (told_of self.new)) }
+        ensures refused { IfErr result (λ fault. IsFaultTold (name_of self.old) (ticket_of self.old) fault (seen_of self.new)) }
         ensures learns { Learns (seen_of self.old) (seen_of self.new) }
     {
         match self.ask(rt, Event::Leave)? {

@@ -1,5 +1,5 @@
 //! How a thread asks a node's thread.
-ghost use Rattle.std.specs.Prelude.{◌≡◌, ◌<◌, ◌≤◌, ◌+◌, ◌^◌, ◌++◌, ◌∷◌, ◌⊎◌, [], length, max, true, false, IfOk, OnOk, OnErr, IfErr, IfSome, Ok, Err};
+ghost use Rattle.std.specs.Prelude.{◌≡◌, ◌<◌, ◌≤◌, ◌+◌, ◌^◌, ◌++◌, ◌∷◌, ◌⊎◌, [], length, max, true, false, IfOk, OnOk, OnErr, IfErr, IfSome, IfNone, Ok, Err};
 ghost use Rattle.shared_table.specs.Readers.{Finds, unseen};
 ghost use Rattle.shared_table.specs.Events.{knows_contact as knows};
 ghost use Rattle.shared_table.specs.declared.Event.TheVariants.{Call as Calls};
@@ -12,10 +12,12 @@ ghost use Rattle.node_seats.specs.Replies.{IsToldTo, IsFaultTold, HasShown};
 use crate::address::Address;
 use crate::bell::Rest;
 use crate::fault::SeatFault;
-use crate::hub::{Hub, SLOTS};
+use crate::hub::Hub;
 use crate::knowledge::Knowledge;
+use crate::laid::Heard;
 use crate::line::Line;
 use crate::place::Place;
+use crate::slots::Slot;
 use crate::standing::Standing;
 use crate::told::NodeStatus;
 use shared_table::{
@@ -24,11 +26,11 @@ use shared_table::{
 use std::alloc::{AllocError, Global};
 use std::sync::{Arc, Wait};
 use std::time::Clock;
-use term::{Name, Node, NodeSet, Pid};
+use term::{Name, Node, NodeSet, Pid, SLOTS};
 
 /// Asks the thread of one node, one event after another, and waits for each reply; and looks names up in the node's table. Contracts see
 /// the node, its place among the seats, the nodes of the cluster, the events that it has put into the node's inbox, and the book of the node
-/// with the moments of it that it knows.
+/// with the moments of it that it knows: it read them, or a reply told of them.
 #[derive(Drop)]
 pub struct Caller {
     /// Which seat's it is, or which of the cluster's own, and the slot of its replies.
@@ -41,9 +43,12 @@ pub struct Caller {
     standing: Arc<Standing, Global>,
     /// It was told of a length only behind which the node had shown its table.
     reader: TableReader,
+    /// Where it finds its replies.
+    replies: Slot,
     rest: Rest,
     ghost shown: { HasShown node reader.seen.told },
     ghost own: { reader.node ≡ node },
+    ghost same: { replies.book ≡ reader.seen.known.book },
     ghost counted: { next ≡ length (events_on line) },
 }
 
@@ -73,7 +78,7 @@ impl Caller {
     ghost use Rattle.node_seats.specs.Seats.{Looked};
 
     /// One that asks the node of this address, which stands so, reads its table by this reader, and finds its replies in the slot of this
-    /// place.
+    /// place at that node.
     pub(crate) fn new(
         hub: &Arc<Hub, Global>,
         standing: &Arc<Standing, Global>,
@@ -98,6 +103,7 @@ impl Caller {
         let rest = hub.rest(place.slot, yields)?;
         let hub = Arc::try_clone(hub)?;
         let standing = Arc::try_clone(standing)?;
+        let replies = address.slot(place.slot)?;
         let line = address.line()?;
         Ok(Caller {
             place,
@@ -107,6 +113,7 @@ impl Caller {
             hub,
             standing,
             reader,
+            replies,
             rest,
         })
     }
@@ -204,8 +211,8 @@ impl Caller {
         ensures numbered { OnOk result (Numbers self.old self.new) }
         ensures kept { OnErr result ((self.new.line ≡ self.old.line) ⊎ Numbers self.old self.new) }
         ensures rises { self.old.next ≤ self.new.next }
-        ensures told { IfOk result (λ effect. IsToldTo (name_of self.old) (ticket_of self.old) (Ok effect) (told_of self.new)) }
-        ensures refused { IfErr result (λ fault. IsFaultTold (name_of self.old) (ticket_of self.old) fault (told_of self.new)) }
+        ensures told { IfOk result (λ effect. IsToldTo (name_of self.old) (ticket_of self.old) (Ok effect) (seen_of self.new)) }
+        ensures refused { IfErr result (λ fault. IsFaultTold (name_of self.old) (ticket_of self.old) fault (seen_of self.new)) }
         ensures learns { Learns (seen_of self.old) (seen_of self.new) }
     {
         if !event.knows_contact(self.hub.nodes()) {
@@ -225,8 +232,8 @@ impl Caller {
         ensures numbered { OnOk result (Numbers self.old self.new) }
         ensures kept { OnErr result ((self.new.line ≡ self.old.line) ⊎ Numbers self.old self.new) }
         ensures rises { self.old.next ≤ self.new.next }
-        ensures told { IfOk result (λ effect. IsToldTo (name_of self.old) (ticket_of self.old) (Ok effect) (told_of self.new)) }
-        ensures refused { IfErr result (λ fault. IsFaultTold (name_of self.old) (ticket_of self.old) fault (told_of self.new)) }
+        ensures told { IfOk result (λ effect. IsToldTo (name_of self.old) (ticket_of self.old) (Ok effect) (seen_of self.new)) }
+        ensures refused { IfErr result (λ fault. IsFaultTold (name_of self.old) (ticket_of self.old) fault (seen_of self.new)) }
         ensures learns { Learns (seen_of self.old) (seen_of self.new) }
     {
         let number = self.next;
@@ -397,22 +404,29 @@ impl Caller {
         unreachable!()
     }
 
-    /// Takes a reply up, if one lies there: what it says of a ticket. The node's readers were shown all that it had shown then, and so the
-    /// table is read from there on. A reply to another, which an earlier caller with its slot waited for last, is dropped: it may be of
-    /// another node, and tells nothing of this one's table.
+    /// Takes a reply up, if one lies there: what it says of a ticket. The caller knows of the moment then at which the node's loop held it, and
+    /// the table is read from there on: the node's readers were shown all that it had shown then. A reply to another, which an earlier caller with
+    /// its slot waited for last, is dropped.
     fn take_up<R: Wait>(&mut self, rt: &R, ticket: Ticket) -> Option<Result<Effect, TaskFault>>
         ensures place { place_of self.new ≡ place_of self.old }
         ensures node { name_of self.new ≡ name_of self.old }
         ensures nodes { nodes_of self.new ≡ nodes_of self.old }
         ensures line { self.new.line ≡ self.old.line }
         ensures next { self.new.next ≡ self.old.next }
-        ensures told { IfSome result (λ outcome. IsToldTo (name_of self.old) ticket outcome (told_of self.new)) }
+        ensures told { IfSome result (λ outcome. IsToldTo (name_of self.old) ticket outcome (seen_of self.new)) }
+        ensures untold { IfNone result (seen_of self.new ≡ seen_of self.old) }
+        ensures book { (seen_of self.new).known.book ≡ (seen_of self.old).known.book }
         ensures learns { Learns (seen_of self.old) (seen_of self.new) }
     {
-        let reply = self.hub.take(rt, self.place.slot)?;
-        let length = reply.length();
-        let outcome = reply.outcome(&self.node, ticket)?;
-        self.reader.learn(length);
+        let laid = self.replies.pop(rt)?;
+        let heard = laid.heard_by(ticket)?;
+        let Heard {
+            outcome,
+            seen,
+            count,
+            length,
+        } = heard;
+        self.reader.hear(seen, count, length);
         Some(outcome)
     }
 
@@ -423,8 +437,10 @@ impl Caller {
         ensures nodes { nodes_of self.new ≡ nodes_of self.old }
         ensures line { self.new.line ≡ self.old.line }
         ensures next { self.new.next ≡ self.old.next }
-        ensures told { IfOk result (λ found. IfSome found (λ effect. IsToldTo (name_of self.old) ticket (Ok effect) (told_of self.new))) }
-        ensures refused { IfErr result (λ fault. IsFaultTold (name_of self.old) ticket fault (told_of self.new)) }
+        ensures told { IfOk result (λ found. IfSome found (λ effect. IsToldTo (name_of self.old) ticket (Ok effect) (seen_of self.new))) }
+        ensures refused { IfErr result (λ fault. IsFaultTold (name_of self.old) ticket fault (seen_of self.new)) }
+        ensures untold { IfOk result (λ found. IfNone found (seen_of self.new ≡ seen_of self.old)) }
+        ensures book { (seen_of self.new).known.book ≡ (seen_of self.old).known.book }
         ensures learns { Learns (seen_of self.old) (seen_of self.new) }
     {
         // This comes first: a reply that was laid down before the thread ended is then found.
@@ -444,8 +460,9 @@ impl Caller {
         ensures nodes { nodes_of self.new ≡ nodes_of self.old }
         ensures line { self.new.line ≡ self.old.line }
         ensures next { self.new.next ≡ self.old.next }
-        ensures told { IfOk result (λ effect. IsToldTo (name_of self.old) ticket (Ok effect) (told_of self.new)) }
-        ensures refused { IfErr result (λ fault. IsFaultTold (name_of self.old) ticket fault (told_of self.new)) }
+        ensures told { IfOk result (λ effect. IsToldTo (name_of self.old) ticket (Ok effect) (seen_of self.new)) }
+        ensures refused { IfErr result (λ fault. IsFaultTold (name_of self.old) ticket fault (seen_of self.new)) }
+        ensures book { (seen_of self.new).known.book ≡ (seen_of self.old).known.book }
         ensures learns { Learns (seen_of self.old) (seen_of self.new) }
     {
         self.rest.worked();

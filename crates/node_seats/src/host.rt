@@ -4,12 +4,14 @@ ghost use Rattle.shared_table.specs.Held.{written};
 ghost use Rattle.shared_table.specs.Coming.{IsLoopOf};
 ghost use Rattle.shared_table.specs.Sound.{LeavesSound};
 ghost use Rattle.shared_table.specs.Onward.{ComesFrom};
-ghost use Rattle.shared_table.specs.Owing.{shown_by};
+ghost use Rattle.shared_table.specs.Publishing.{IsAllShown, IsWritten};
+ghost use Rattle.node_seats.specs.Replies.{AreHeld};
 ghost use Rattle.node_seats.specs.Stops.{is_alone, ends_alone};
 
 use crate::bell::Rest;
 use crate::hub::Hub;
 use crate::laid::Laid;
+use crate::slots::Slots;
 use crate::standing::Standing;
 use name_table::Names;
 use shared_table::{NodeEnd, NodeLoop, Publisher, Record};
@@ -40,31 +42,65 @@ impl Stop {
 }
 
 /// By what a node's thread answers those who ask it, tells them how it stands, and sleeps. Contracts see how often it yields at
-/// most before it sleeps.
+/// most before it sleeps, and the book of the node.
 #[derive(Drop)]
 pub struct Host {
     hub: Arc<Hub, Global>,
     standing: Arc<Standing, Global>,
     rest: Rest,
+    slots: Slots,
 }
 
 impl Model for Host {
-    ghost use Rattle.std.specs.Prelude.{ℕ};
+    ghost use Rattle.node_seats.specs.Hosts.{Hosting};
 
-    ghost Value = { ℕ };
+    ghost Value = { Hosting };
 
-    ghost view = { λ h. h.rest.yields };
+    ghost view = { λ h. record { yields = h.rest.yields; book = h.slots } };
+}
+
+/// Lays the replies of a node's loop down for their callers, and wakes these.
+fn lay_all<N: Names<Memory = Global>, L: Record, R: Wait>(
+    rt: &R,
+    hub: &Hub,
+    slots: &mut Slots,
+    node: &mut NodeLoop<N, L>,
+    publisher: &Publisher,
+)
+    requires came { IsLoopOf node.old.log.node node.old }
+    requires shown { IsAllShown publisher.now }
+    requires held { AreHeld publisher.now.known.log node.old.desk.replies }
+    requires book { publisher.now.known.book ≡ slots.old }
+    ensures same { slots.new ≡ slots.old }
+    ensures came { IsLoopOf node.old.log.node node.new }
+    ensures comes { ComesFrom node.old node.new }
+    ensures all { node.new ≡ record node.old { desk = record node.old.desk { replies = [] } } }
+{
+    for _ in rt.forever() {
+        let Some(reply) = Laid::next(node, publisher) else {
+            break;
+        };
+        let slot = reply.slot();
+        slots.lay(rt, reply);
+        hub.wake(slot);
+    }
 }
 
 impl Host {
-    /// The host of a node that stands so, whose thread rests so.
-    pub(crate) fn new(hub: Arc<Hub, Global>, standing: Arc<Standing, Global>, rest: Rest) -> Self
-        ensures { result ≡ rest.yields }
+    /// The host of a node that stands so, whose thread rests so, and replies in these slots.
+    pub(crate) fn new(
+        hub: Arc<Hub, Global>,
+        standing: Arc<Standing, Global>,
+        rest: Rest,
+        slots: Slots,
+    ) -> Self
+        ensures { result ≡ record { yields = rest.yields; book = slots } }
     {
         Host {
             hub,
             standing,
             rest,
+            slots,
         }
     }
 
@@ -83,26 +119,24 @@ impl Host {
         }
     }
 
-    /// Call it behind each turn of the node, where its readers are shown all: lays its replies down for their callers, each with how long
-    /// a log is behind what they are shown.
+    /// Call it behind each turn of the node, where its readers are shown all, and the moment at which it stands is written down: lays its replies
+    /// down for their callers, each with the moments of the node up to then.
     pub fn hand_out<N: Names<Memory = Global>, L: Record, R: Wait>(
-        &self,
+        &mut self,
         rt: &R,
         node: &mut NodeLoop<N, L>,
         publisher: &Publisher,
     )
         requires came { IsLoopOf node.old.log.node node.old }
-        requires shown { publisher.now.shown ≡ shown_by node.old }
+        requires shown { IsAllShown publisher.now }
+        requires written { IsWritten node.old publisher.now }
+        requires book { publisher.now.known.book ≡ self.old.book }
+        ensures same { self.new ≡ self.old }
         ensures came { IsLoopOf node.old.log.node node.new }
         ensures comes { ComesFrom node.old node.new }
         ensures all { node.new ≡ record node.old { desk = record node.old.desk { replies = [] } } }
     {
-        for _ in rt.forever() {
-            let Some(reply) = Laid::next(node, publisher) else {
-                break;
-            };
-            self.hub.lay(rt, reply);
-        }
+        lay_all(rt, &*self.hub, &mut self.slots, node, publisher);
     }
 
     /// Rests where the last turn of the node did nothing, shortly where it has something to try again, or readers weren't shown all. It

@@ -1,86 +1,40 @@
-//! What the threads of a cluster share with its seats: its nodes, the replies, and whether the cluster is being closed.
+//! What the threads of a cluster share with its seats: its nodes, by what callers are woken, and whether the cluster is being closed.
 ghost use Rattle.std.specs.Prelude.{◌≡◌, ◌<◌, vec_len, IfOk};
-ghost use Rattle.node_seats.specs.declared.hub.TheConstants.{SLOTS};
+ghost use Rattle.term.specs.declared.limits.TheConstants.{SLOTS};
 
 use crate::bell::{Bell, Rest};
-use crate::laid::Laid;
-use crate::place::MOST_SEATS;
 use std::alloc::{AllocError, Global};
 use std::sync::atomic::{AtomicBool, Ordering};
-use std::sync::{Mutex, Wait};
-use term::{MOST_NODES, NodeSet};
+use term::{NodeSet, SLOTS};
 
-/// How many slots for replies there are: one for each seat that there is at once, and behind those one for the cluster's own calls at each
-/// node.
-pub const SLOTS: u32 = MOST_SEATS + MOST_NODES as u32;
-
-/// How many readers a node's table has: one for each seat that there is at once, which may be at any node, and one for the cluster's own
-/// calls.
-pub const MOST_READERS: usize = MOST_SEATS as usize + 1;
-
-/// Where the reply to one caller is laid. A caller has one call at a time, so one reply has room; and to lay one takes no memory,
-/// so none is ever lost. Seats have a slot one after another, and the number of each is above those before it.
-#[derive(Drop)]
-struct Slot {
-    reply: Mutex<Option<Laid>>,
-    bell: Bell,
-}
-
-/// The nodes of a cluster, the slots of all callers, whether its threads are asked to end, and whether it is over, so that nobody reads a
+/// The nodes of a cluster, by what all callers are woken, whether its threads are asked to end, and whether it is over, so that nobody reads a
 /// table any more.
 #[derive(Drop)]
 pub struct Hub {
     nodes: NodeSet,
     closing: AtomicBool,
     over: AtomicBool,
-    slots: Vec<Slot>,
-    ghost all: { vec_len slots ≡ SLOTS },
-}
-
-impl Slot {
-    /// One without a reply.
-    fn new(alloc: Global) -> Result<Self, AllocError> {
-        let bell = Bell::new(alloc)?;
-        let reply = Mutex::new(None);
-        Ok(Slot { reply, bell })
-    }
-
-    /// Puts a reply there, unless it comes too late. Whether it did.
-    fn put<R: Wait>(&self, rt: &R, reply: Laid) -> bool {
-        let mut lying = self.reply.lock(rt);
-        if let Some(other) = lying.as_ref()
-            && reply.comes_late(other)
-        {
-            return false;
-        }
-        *lying = Some(reply);
-        true
-    }
-
-    /// Lays a reply down, and wakes the caller.
-    fn lay<R: Wait>(&self, rt: &R, reply: Laid) {
-        if self.put(rt, reply) {
-            self.bell.ring();
-        }
-    }
+    /// One for each slot.
+    bells: Vec<Bell>,
+    ghost all: { vec_len bells ≡ SLOTS },
 }
 
 impl Hub {
     ghost use Rattle.node_seats.specs.Callers.{nodes_at};
 
-    /// Slots without a reply, for a cluster of these nodes.
+    /// That of a cluster of these nodes.
     pub fn new(alloc: Global, nodes: &NodeSet) -> Result<Self, AllocError>
         ensures { IfOk result (λ hub. nodes_at hub ≡ nodes.now) }
     {
-        let mut slots = Vec::new(alloc);
+        let mut bells = Vec::new(alloc);
         for _ in 0..SLOTS {
-            slots.push(Slot::new(alloc)?)?;
+            bells.push(Bell::new(alloc)?)?;
         }
         Ok(Hub {
             nodes: nodes.copy(),
             closing: AtomicBool::new(false),
             over: AtomicBool::new(false),
-            slots,
+            bells,
         })
     }
 
@@ -95,27 +49,20 @@ impl Hub {
     pub(crate) fn rest(&self, slot: u32, yields: u32) -> Result<Rest, AllocError>
         requires { slot < SLOTS }
     {
-        self.slots[slot as usize].bell.rest(yields)
+        self.bells[slot as usize].rest(yields)
     }
 
-    /// Lays a reply down for its caller, and wakes it. A reply that still lies there is one that an earlier caller with that slot waits for
-    /// no more, unless it is one to a later ticket: then this one comes too late, and is dropped.
-    pub(crate) fn lay<R: Wait>(&self, rt: &R, reply: Laid) {
-        if let Some(slot) = self.slots.get(reply.slot() as usize) {
-            slot.lay(rt, reply);
+    /// Wakes the caller with this slot.
+    pub(crate) fn wake(&self, slot: u32) {
+        if let Some(bell) = self.bells.get(slot as usize) {
+            bell.ring();
         }
-    }
-
-    /// Takes the reply up that lies there for a caller, if one does.
-    pub(crate) fn take<R: Wait>(&self, rt: &R, caller: u32) -> Option<Laid> {
-        let slot = self.slots.get(caller as usize)?;
-        slot.reply.lock(rt).take()
     }
 
     /// Wakes all callers.
     pub(crate) fn ring(&self) {
-        for slot in &self.slots {
-            slot.bell.ring();
+        for bell in &self.bells {
+            bell.ring();
         }
     }
 

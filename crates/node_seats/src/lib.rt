@@ -1,7 +1,7 @@
 //! Seats: from where other threads call a node, and what the node's thread answers them by.
 //!
 //! Whoever starts the thread of a node opens it first: its seats are made by the caller that comes with that, and its thread gets
-//! the host. Each seat asks the thread by a line into the node's inbox, and finds its replies in a slot of the hub.
+//! the host. Each seat asks the thread by a line into the node's inbox, and finds its replies in a slot of the node.
 #![tactic(auto)]
 
 mod address;
@@ -17,12 +17,14 @@ mod host;
 mod hub;
 mod knowledge;
 mod laid;
+mod laws;
 mod line;
 mod notes;
 mod opened;
 mod parcel;
 mod place;
 mod seat;
+mod slots;
 mod standing;
 mod told;
 
@@ -32,13 +34,14 @@ pub use fault::SeatFault;
 pub use free_seat::FreeSeat;
 pub use holder::HolderSeat;
 pub use host::{Host, Stop};
-pub use hub::{Hub, MOST_READERS, SLOTS};
+pub use hub::Hub;
 pub use knowledge::Knowledge;
+pub use laws::what_is_told_lasts;
 pub use line::Line;
 pub use notes::{ForgottenNotes, KeptNotes, Notes};
 pub use opened::{Opened, open_node};
 pub use parcel::Parcel;
-pub use place::{MOST_SEATS, Place, SEAT_NUMBERS};
+pub use place::Place;
 pub use seat::Seat;
 pub use shared_table::{
     Call, Effect, IdleReaders, KeptPublisher, LastTable, Moment, NameList, Nodes, Notice,

@@ -4,6 +4,7 @@ ghost use Rattle.link.specs.Mailboxes.{taken, mailbox_room};
 ghost use Rattle.shared_table.specs.Moments.{shown_at};
 ghost use Rattle.node_seats.specs.Addresses.{inbox_at};
 ghost use Rattle.node_seats.specs.Callers.{name_of, inbox_of, place_of, own_place, nodes_of, nodes_at, asked_by};
+ghost use Rattle.term.specs.declared.limits.TheConstants.{MOST_NODES};
 
 use crate::address::{Address, Entrance, open_inbox};
 use crate::caller::Caller;
@@ -11,6 +12,7 @@ use crate::host::Host;
 use crate::hub::Hub;
 use crate::parcel::Parcel;
 use crate::place::Place;
+use crate::slots::open_slots;
 use crate::standing::Standing;
 use link::Mailbox;
 use shared_table::{IdleReaders, Item, TableReader};
@@ -41,7 +43,7 @@ pub fn open_node(
     yields: u32,
     readers: IdleReaders,
 ) -> Result<Opened, AllocError>
-    requires index { index < 8 }
+    requires index { index < MOST_NODES }
     requires known { 0 < length readers.log }
     requires own { (shown_at readers.log).node ≡ node }
     ensures address { IfOk result (λ opened. opened.address ≡ record { node = node; lines = 1; room = mailbox_room opened.mailbox; book = readers.book }) }
@@ -51,18 +53,18 @@ pub fn open_node(
     ensures nodes { IfOk result (λ opened. nodes_of opened.caller ≡ nodes_at hub.now.value) }
     ensures unasked { IfOk result (λ opened. asked_by opened.caller ≡ []) }
     ensures empty { IfOk result (λ opened. taken opened.mailbox ≡ []) }
-    ensures host { IfOk result (λ opened. opened.host ≡ yields) }
+    ensures host { IfOk result (λ opened. opened.host ≡ record { yields = yields; book = readers.book }) }
 {
     // What is large comes last: the check follows each way out with all that was made before it.
     let standing = Arc::new(alloc, Standing::new(node.copy()))?;
     let own = Arc::try_clone(hub)?;
-    let book = readers.token();
+    let (thread, callers) = open_slots(alloc, readers.token())?;
     let reader = TableReader::lent(readers)?;
     let Entrance {
         mut address,
         mailbox,
         rest,
-    } = open_inbox(alloc, node, book, yields)?;
+    } = open_inbox(alloc, node, callers, yields)?;
     let caller = Caller::new(
         hub,
         &standing,
@@ -71,7 +73,7 @@ pub fn open_node(
         Place::own(index),
         yields,
     )?;
-    let host = Host::new(own, standing, rest);
+    let host = Host::new(own, standing, rest, thread);
     Ok(Opened {
         address,
         caller,

@@ -2,11 +2,7 @@
 ghost use Rattle.std.specs.Prelude.{◌≡◌, ◌<◌};
 ghost use Rattle.node_seats.specs.Callers.{own_place};
 
-/// How many seats of a cluster there are at once.
-pub const MOST_SEATS: u32 = 64;
-
-/// How many seats a cluster makes in all: so many numbers are theirs, and those above are the numbers of its own callers, one at each node.
-pub const SEAT_NUMBERS: u32 = 4_294_967_288;
+use term::{MOST_NODES, MOST_SEATS, SEAT_NUMBERS};
 
 /// A seat among those of its cluster: by a number, which no other has, and by the slot of its replies, which others have before it and
 /// behind it.
@@ -21,7 +17,7 @@ pub struct Place {
 impl Place {
     /// That of a cluster's own caller at the node with this index, which is never given back.
     pub(crate) fn own(index: u32) -> Self
-        requires { index < 8 }
+        requires { index < MOST_NODES }
         ensures { result ≡ own_place index }
     {
         Place {

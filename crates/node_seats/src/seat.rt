@@ -167,8 +167,9 @@ impl<T: Notes> Seat<T> {
         self.caller.look_up(name)
     }
 
-    /// The moments of its node that it knows, of the node's book: the last of them shows what was read last, and there are none before the
-    /// first look-up. It has no bytes. Where the cluster is over, the past of the node's book covers it (`Past::covers`).
+    /// The moments of its node that it knows, of the node's book: up to the last that it read in, or that a reply was told at. There are none
+    /// before its first look-up and its first reply. It has no bytes. Where the cluster is over, the past of the node's book covers it
+    /// (`Past::covers`).
     pub fn token(&self) -> Token
         ensures book { result.book ≡ self.now.seen.known.book }
         ensures log { result.log ≡ self.now.seen.known.log }

@@ -14,7 +14,8 @@ use Rattle.protocol_model.specs.Node.{opening_node}
 use Rattle.protocol_model.specs.World.{Opening as AnyOpening, in_world, in_cluster}
 use Rattle.replay.proofs.Opened.{opening_same, world_is}
 use Rattle.term.specs.Nodes.{IsFirst}
-use Rattle.term.specs.NodeSets.{set_of, most_nodes}
+use Rattle.term.specs.NodeSets.{set_of}
+use Rattle.term.specs.declared.limits.TheConstants.{MOST_NODES}
 use Rattle.term.proofs.Subsets.{set_of-append}
 use Rattle.node_loop.specs.declared.StartFault.TheVariants.{SameNode, TooManyNodes}
 use Rattle.node_loop.specs.NodeCoreHeld.{Held, bound_of, fresh}
@@ -29,18 +30,18 @@ taken true d e = absurd (cc e)
 taken false true e = absurd (cc e)
 taken false false e = (refl, refl)
 
-not_more : (n : ℕ) → nat_lt most_nodes n ≡ false → n ≤ 8
+not_more : (n : ℕ) → nat_lt MOST_NODES n ≡ false → n ≤ MOST_NODES
 not_more n e = grind (arith, nat_tests)
 
--- no node stands twice in lists that a world is started with, and there are eight at most
+-- no node stands twice in lists that a world is started with, and there are not too many
 pub once : (cluster lone : List ℕ) → start_refused cluster lone ≡ None → repeats (cluster ++ lone) ≡ false
 once [] lone e = absurd (cc e)
-once (c ∷ cs) lone e = (taken (repeats ((c ∷ cs) ++ lone)) (nat_lt most_nodes (length ((c ∷ cs) ++ lone))) e).0
+once (c ∷ cs) lone e = (taken (repeats ((c ∷ cs) ++ lone)) (nat_lt MOST_NODES (length ((c ∷ cs) ++ lone))) e).0
 
-pub few : (cluster lone : List ℕ) → start_refused cluster lone ≡ None → length (cluster ++ lone) ≤ 8
+pub few : (cluster lone : List ℕ) → start_refused cluster lone ≡ None → length (cluster ++ lone) ≤ MOST_NODES
 few [] lone e = absurd (cc e)
 few (c ∷ cs) lone e =
-    not_more _ (taken (repeats ((c ∷ cs) ++ lone)) (nat_lt most_nodes (length ((c ∷ cs) ++ lone))) e).1
+    not_more _ (taken (repeats ((c ∷ cs) ++ lone)) (nat_lt MOST_NODES (length ((c ∷ cs) ++ lone))) e).1
 
 -- the nodes of both lists are those of the world
 module _ (cluster lone : List ℕ) (o : Opened) (opens : IsOpening cluster lone o) where

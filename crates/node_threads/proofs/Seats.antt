@@ -3,8 +3,7 @@ use Rattle.std.proofs.Common.{ℕ, Bool, true, false, ◌≡◌, ◌<◌, ◌≤
 use Rattle.std.specs.Prelude.{nat_lt, not, ◌||◌}
 use Rattle.std.specs.List.{position}
 use Rattle.std.proofs.lemmas.Bool.Decides.{nat_tests}
-use Rattle.node_seats.specs.Callers.{seat_numbers}
-use Rattle.node_seats.specs.declared.place.TheConstants.{MOST_SEATS}
+use Rattle.term.specs.declared.limits.TheConstants.{SEAT_NUMBERS, MOST_SEATS}
 use Rattle.node_threads.specs.declared.seating.Seating.{Seating}
 use Rattle.node_threads.specs.Seating.{are_spent, free_slot}
 
@@ -13,7 +12,7 @@ module _ (s : Seating) (slots : length s.taken ≡ MOST_SEATS) where
   pub none_free : position not s.taken ≡ None → are_spent s ≡ true
   none_free at = go (nat_lt (free_slot s) MOST_SEATS) (ap (λ (n : ℕ). cond (nat_lt (free_slot s) n) (Some (free_slot s)) None) (sym slots) ∙ at)
     where
-      go : (b : Bool) → cond b (Some (free_slot s)) None ≡ None → (not b || not (nat_lt s.made seat_numbers)) ≡ true
+      go : (b : Bool) → cond b (Some (free_slot s)) None ≡ None → (not b || not (nat_lt s.made SEAT_NUMBERS)) ≡ true
       go true e = absurd (cc e)
       go false e = refl
 
@@ -28,15 +27,15 @@ module _ (s : Seating) (slots : length s.taken ≡ MOST_SEATS) where
 
 -- where one is, it depends on whether a number is left
 module _ (s : Seating) (free : free_slot s < MOST_SEATS) where
-  spent_by : (b : Bool) → nat_lt s.made seat_numbers ≡ b → are_spent s ≡ not b
+  spent_by : (b : Bool) → nat_lt s.made SEAT_NUMBERS ≡ b → are_spent s ≡ not b
   spent_by b is = go (nat_lt (free_slot s) MOST_SEATS) refl
     where
-      go : (f : Bool) → nat_lt (free_slot s) MOST_SEATS ≡ f → (not f || not (nat_lt s.made seat_numbers)) ≡ not b
+      go : (f : Bool) → nat_lt (free_slot s) MOST_SEATS ≡ f → (not f || not (nat_lt s.made SEAT_NUMBERS)) ≡ not b
       go true e = ap not is
       go false e = absurd (grind (arith, nat_tests))
 
-  pub no_number : seat_numbers ≤ s.made → are_spent s ≡ true
+  pub no_number : SEAT_NUMBERS ≤ s.made → are_spent s ≡ true
   no_number most = spent_by false (grind (arith, nat_tests))
 
-  pub one_more : s.made < seat_numbers → are_spent s ≡ false
+  pub one_more : s.made < SEAT_NUMBERS → are_spent s ≡ false
   one_more more = spent_by true (grind (arith, nat_tests))

@@ -5,7 +5,8 @@ use Rattle.node_loop.specs.declared.item.Item.TheVariants.{Task as TaskItem}
 use Rattle.node_loop.specs.declared.item.Stamped.{Stamped}
 use Rattle.node_loop.specs.declared.item.Task.{Task}
 use Rattle.node_threads.specs.declared.ruled_end.Traffic.{Traffic}
-use Rattle.node_threads.specs.Traffics.{with_tasks, lasting, most_letters, is_tasks_turn, counted, HasSearched, Hears, FindsNext, Serves, Takes}
+use Rattle.node_threads.specs.Traffics.{with_tasks, lasting, is_tasks_turn, counted, HasSearched, Hears, FindsNext, Serves, Takes}
+use Rattle.term.specs.declared.limits.TheConstants.{MOST_LETTERS}
 
 both_empty : {A : Type 0} (xs ys : List A) → xs ++ ys ≡ [] → (xs ≡ []) × (ys ≡ [])
 both_empty [] ys e = (refl, e)
@@ -35,7 +36,7 @@ module _ (s u : Traffic) where
   takes_none (inl turn) none = absurd (waits (sym (ap (λ (x : Traffic). x.waiting) turn.1) ∙ none) turn.0)
     where
       waits : s.waiting ≡ [] → is_tasks_turn s ≡ true → ⊥
-      waits e here = absurd (cc (sym (ap (λ (l : List Task). nat_lt 0 (length l) && nat_le most_letters s.in_a_row) e) ∙ here))
+      waits e here = absurd (cc (sym (ap (λ (l : List Task). nat_lt 0 (length l) && nat_le MOST_LETTERS s.in_a_row) e) ∙ here))
   takes_none (inr searched) none =
       let empty : (s.waiting ≡ []) × (searched.0 ≡ []) =
       both_empty s.waiting searched.0 (sym (ap (λ (x : Traffic). x.waiting) searched.1) ∙ none) in (

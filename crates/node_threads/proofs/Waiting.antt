@@ -5,6 +5,7 @@ use Rattle.std.specs.List.{AllPass, Contains, remove, position}
 use Rattle.std.proofs.lemmas.Bool.{cases_order, lt-ltb}
 use Rattle.std.proofs.lemmas.Bool.Decides.{nat_tests}
 use Rattle.std.proofs.lemmas.Option.{get_or_from_slice_get}
+use Rattle.term.specs.declared.limits.TheConstants.{MOST_LETTERS}
 use Rattle.node_loop.specs.declared.item.Item.{Item}
 use Rattle.node_loop.specs.declared.item.Item.TheVariants.{Letter, Task as TaskItem}
 use Rattle.node_loop.specs.declared.item.Task.{Task}
@@ -37,31 +38,35 @@ module _ {A : Type 0} where
 -- so many items may be taken before the task that waits longest is: a letter for each that is missing, the task, and the same again where
 -- another task may pass it
 abbrev left : Bool → ℕ → ℕ
-left passed row = if passed then (64 - row) + 1 else (64 - row) + 66
+left passed row = if passed then (MOST_LETTERS - row) + 1 else (MOST_LETTERS - row) + MOST_LETTERS + 2
 
-none_left : (b : Bool) (n p : ℕ) → left b n + 130 * p ≤ 0 → ⊥
+-- so many are for each task that waits longer: that task, another that may pass it, and the letters before both
+abbrev both : ℕ
+both = 2 * (MOST_LETTERS + 1)
+
+none_left : (b : Bool) (n p : ℕ) → left b n + both * p ≤ 0 → ⊥
 none_left true n p h = omega (arith, h)
 none_left false n p h = omega (arith, h)
 
-letter_counts : (b : Bool) (n p m : ℕ) → n < 64 → left b n + 130 * p ≤ suc m → left b (n + 1) + 130 * p ≤ m
+letter_counts : (b : Bool) (n p m : ℕ) → n < MOST_LETTERS → left b n + both * p ≤ suc m → left b (n + 1) + both * p ≤ m
 letter_counts true n p m lt h = omega (arith, lt, h)
 letter_counts false n p m lt h = omega (arith, lt, h)
 
-comes_up : (b c : Bool) (n p m : ℕ) → left b n + 130 * suc p ≤ suc m → left c 0 + 130 * p ≤ m
+comes_up : (b c : Bool) (n p m : ℕ) → left b n + both * suc p ≤ suc m → left c 0 + both * p ≤ m
 comes_up true true n p m h = omega (arith, h)
 comes_up true false n p m h = omega (arith, h)
 comes_up false true n p m h = omega (arith, h)
 comes_up false false n p m h = omega (arith, h)
 
-is_passed : (n p m : ℕ) → left false n + 130 * p ≤ suc m → left true 0 + 130 * p ≤ m
+is_passed : (n p m : ℕ) → left false n + both * p ≤ suc m → left true 0 + both * p ≤ m
 is_passed n p m h = omega (arith, h)
 
-all_left : (b : Bool) (n p m : ℕ) → 130 * (p + 1) ≤ m → left b n + 130 * p ≤ m
+all_left : (b : Bool) (n p m : ℕ) → both * (p + 1) ≤ m → left b n + both * p ≤ m
 all_left true n p m h = omega (arith, h)
 all_left false n p m h = omega (arith, h)
 
 -- a letter is taken before a task that waits
-below : (n : ℕ) (b : Bool) → b ≡ true → (b && nat_le 64 n) ≡ false → n < 64
+below : (n : ℕ) (b : Bool) → b ≡ true → (b && nat_le MOST_LETTERS n) ≡ false → n < MOST_LETTERS
 below n true e h = grind (arith, nat_tests)
 below n false e h = absurd (cc e)
 
@@ -69,10 +74,10 @@ waits : (ws : List Task) (p : ℕ) (k : Task) → slice_get ws p ≡ Some k → 
 waits [] p k e = absurd (cc e)
 waits (w ∷ ws) p k e = lt-ltb 0 (suc (length ws)) (omega arith)
 
-one_more : (n : ℕ) → n < 64 → (if nat_lt n 64 then n + 1 else n) ≡ n + 1
-one_more n lt = go (nat_lt n 64) refl
+one_more : (n : ℕ) → n < MOST_LETTERS → (if nat_lt n MOST_LETTERS then n + 1 else n) ≡ n + 1
+one_more n lt = go (nat_lt n MOST_LETTERS) refl
   where
-    go : (b : Bool) → nat_lt n 64 ≡ b → (if b then n + 1 else n) ≡ n + 1
+    go : (b : Bool) → nat_lt n MOST_LETTERS ≡ b → (if b then n + 1 else n) ≡ n + 1
     go true e = refl
     go false e = absurd (grind (arith, nat_tests))
 
@@ -82,24 +87,24 @@ not_passed true q n lt = absurd (omega (arith, lt))
 not_passed false q n lt = refl
 
 comes : (items : List (ℕ × Item)) (s : Traffic) (p : ℕ) (k : Task) → Takings s items → slice_get s.waiting p ≡ Some k
-    → left s.has_passed s.in_a_row + 130 * p ≤ length items → Contains (map (λ x. x.1) items) (TaskItem k)
+    → left s.has_passed s.in_a_row + both * p ≤ length items → Contains (map (λ x. x.1) items) (TaskItem k)
 comes [] s p k run at enough = absurd (none_left s.has_passed s.in_a_row p enough)
 comes ((from, Letter l) ∷ items) s p k (u, same, v, takes, run) at enough =
     let here : slice_get u.waiting p ≡ Some k = ap (λ (x : Traffic). slice_get x.waiting p) same ∙ at in
-    let few : u.in_a_row < 64 = below u.in_a_row (nat_lt 0 (length u.waiting)) (waits u.waiting p k here) takes.0 in
-    let left_u : left u.has_passed u.in_a_row + 130 * p ≤ suc (length items) =
-    subst (λ (x : Traffic). left x.has_passed x.in_a_row + 130 * p ≤ suc (length items)) (sym same) enough in
+    let few : u.in_a_row < MOST_LETTERS = below u.in_a_row (nat_lt 0 (length u.waiting)) (waits u.waiting p k here) takes.0 in
+    let left_u : left u.has_passed u.in_a_row + both * p ≤ suc (length items) =
+    subst (λ (x : Traffic). left x.has_passed x.in_a_row + both * p ≤ suc (length items)) (sym same) enough in
     let row : v.in_a_row ≡ u.in_a_row + 1 = ap (λ (x : Traffic). x.in_a_row) takes.2.2 ∙ one_more u.in_a_row few in
     let passed : v.has_passed ≡ u.has_passed = ap (λ (x : Traffic). x.has_passed) takes.2.2 in
     later (Letter l) (TaskItem k) (map (λ x. x.1) items) (comes items v p k run
     (ap (λ (x : Traffic). slice_get x.waiting p) takes.2.2 ∙ get_appended u.waiting takes.1 p k here)
-    (subst (λ (x : Bool × ℕ). left x.0 x.1 + 130 * p ≤ length items) (λ j. (sym passed j, sym row j))
+    (subst (λ (x : Bool × ℕ). left x.0 x.1 + both * p ≤ length items) (λ j. (sym passed j, sym row j))
     (letter_counts u.has_passed u.in_a_row p (length items) few left_u)))
 comes ((from, TaskItem j) ∷ items) s p k (u, same, v, takes, run) at enough =
     let here : slice_get (u.waiting ++ takes.1) p ≡ Some k =
     get_appended u.waiting takes.1 p k (ap (λ (x : Traffic). slice_get x.waiting p) same ∙ at) in
-    let left_u : left u.has_passed u.in_a_row + 130 * p ≤ suc (length items) =
-    subst (λ (x : Traffic). left x.has_passed x.in_a_row + 130 * p ≤ suc (length items)) (sym same) enough in
+    let left_u : left u.has_passed u.in_a_row + both * p ≤ suc (length items) =
+    subst (λ (x : Traffic). left x.has_passed x.in_a_row + both * p ≤ suc (length items)) (sym same) enough in
     at_place (λ x. comes items v x k run) (cases_order q p) p refl here left_u
   where
     q : ℕ
@@ -108,10 +113,10 @@ comes ((from, TaskItem j) ∷ items) s p k (u, same, v, takes, run) at enough =
     row : 0 ≡ v.in_a_row
     row = sym (ap (λ (x : Traffic). x.in_a_row) takes.2.2)
 
-    at_place : ((x : ℕ) → slice_get v.waiting x ≡ Some k → left v.has_passed v.in_a_row + 130 * x ≤ length items
+    at_place : ((x : ℕ) → slice_get v.waiting x ≡ Some k → left v.has_passed v.in_a_row + both * x ≤ length items
         → Contains (map (λ y. y.1) items) (TaskItem k))
         → (q ≡ p) ⊎ ((q < p) ⊎ (p < q)) → (x : ℕ) → x ≡ p → slice_get (u.waiting ++ takes.1) x ≡ Some k
-        → left u.has_passed u.in_a_row + 130 * x ≤ suc (length items) → Contains (map (λ x. x.1) ((from, TaskItem j) ∷ items)) (TaskItem k)
+        → left u.has_passed u.in_a_row + both * x ≤ suc (length items) → Contains (map (λ x. x.1) ((from, TaskItem j) ∷ items)) (TaskItem k)
     at_place next (inl e) x is here left_u = (
       0,
       omega arith,
@@ -121,29 +126,29 @@ comes ((from, TaskItem j) ∷ items) s p k (u, same, v, takes, run) at enough =
     at_place next (inr (inl lt)) zero is here left_u = absurd (omega (arith, lt, is))
     at_place next (inr (inl lt)) (suc x) is here left_u = later (TaskItem j) (TaskItem k) (map (λ x. x.1) items) (next x
         (ap (λ (y : Traffic). slice_get y.waiting x) takes.2.2 ∙ get_behind (u.waiting ++ takes.1) q x k (omega (arith, lt, is)) here)
-        (subst (λ (n : ℕ). left v.has_passed n + 130 * x ≤ length items) row
+        (subst (λ (n : ℕ). left v.has_passed n + both * x ≤ length items) row
         (comes_up u.has_passed v.has_passed u.in_a_row x (length items) left_u)))
     at_place next (inr (inr lt)) x is here left_u =
         let unpassed : u.has_passed ≡ false = not_passed u.has_passed (or_first (position asks_nodes (u.waiting ++ takes.1))) p lt in
         let passed : v.has_passed ≡ true = ap (λ (y : Traffic). y.has_passed) takes.2.2 ∙ lt-ltb 0 q (omega (arith, lt)) in
         later (TaskItem j) (TaskItem k) (map (λ x. x.1) items) (next x
         (ap (λ (y : Traffic). slice_get y.waiting x) takes.2.2 ∙ get_before (u.waiting ++ takes.1) q x k (omega (arith, lt, is)) here)
-        (subst (λ (y : Bool × ℕ). left y.0 y.1 + 130 * x ≤ length items) (λ i. (sym passed i, row i))
-        (is_passed u.in_a_row x (length items) (subst (λ (b : Bool). left b u.in_a_row + 130 * x ≤ suc (length items)) unpassed left_u))))
+        (subst (λ (y : Bool × ℕ). left y.0 y.1 + both * x ≤ length items) (λ i. (sym passed i, row i))
+        (is_passed u.in_a_row x (length items) (subst (λ (b : Bool). left b u.in_a_row + both * x ≤ suc (length items)) unpassed left_u))))
 
 -- while a task waits, each letter takes one off those that may be taken before it
 letters : (items : List (ℕ × Item)) (s : Traffic) → Takings s items → 0 < length s.waiting → AllPass is_letter items
-    → length items ≤ 64 - s.in_a_row
+    → length items ≤ MOST_LETTERS - s.in_a_row
 letters [] s run some all = omega arith
 letters ((from, TaskItem j) ∷ items) s run some all = absurd (cc (all 0 (from, TaskItem j) (omega arith)))
 letters ((from, Letter l) ∷ items) s (u, same, v, takes, run) some all =
     let some_u : 0 < length u.waiting = subst (λ (x : Traffic). 0 < length x.waiting) (sym same) some in
-    let few : u.in_a_row < 64 = below u.in_a_row (nat_lt 0 (length u.waiting)) (lt-ltb 0 (length u.waiting) some_u) takes.0 in
+    let few : u.in_a_row < MOST_LETTERS = below u.in_a_row (nat_lt 0 (length u.waiting)) (lt-ltb 0 (length u.waiting) some_u) takes.0 in
     let row : v.in_a_row ≡ u.in_a_row + 1 = ap (λ (x : Traffic). x.in_a_row) takes.2.2 ∙ one_more u.in_a_row few in
     let row_u : u.in_a_row ≡ s.in_a_row = ap (λ (x : Traffic). x.in_a_row) same in
     let many : length v.waiting ≡ length u.waiting + length takes.1 =
     ap (λ (x : Traffic). length x.waiting) takes.2.2 ∙ length-append u.waiting takes.1 in
-    let rest : length items ≤ 64 - v.in_a_row = letters items v run (omega (arith, some_u, many)) (λ i d lt. all (suc i) d (omega (arith, lt))) in
+    let rest : length items ≤ MOST_LETTERS - v.in_a_row = letters items v run (omega (arith, some_u, many)) (λ i d lt. all (suc i) d (omega (arith, lt))) in
     omega (arith, few, row, row_u, rest)
 
 pub letters_give_way : LettersGiveWay

@@ -6,7 +6,7 @@ use Rattle.node_seats.specs.declared.caller.Caller.{Caller}
 use Rattle.node_seats.specs.declared.fault.SeatFault.{SeatFault}
 use Rattle.node_seats.specs.declared.fault.SeatFault.TheVariants.{NoSuchNode}
 use Rattle.node_seats.specs.Addresses.{Inbox}
-use Rattle.node_seats.specs.Callers.{inbox_of, ticket_of, told_of, task_for, Puts, IsEnd}
+use Rattle.node_seats.specs.Callers.{inbox_of, ticket_of, seen_of, task_for, Puts, IsEnd}
 use Rattle.node_seats.specs.Replies.{IsToldTo, HasLeft}
 use Rattle.node_seats.specs.Seats.{Sitting, new_seat}
 use Rattle.node_threads.specs.Wires.{Wired, inboxes, inbox_to}
@@ -41,13 +41,15 @@ abbrev pub IsUntold : SeatFault → Bool → Type 0
 IsUntold NoSuchNode known = known ≡ false
 IsUntold fault known = (known ≡ true) × IsEnd fault
 
--- A leave was put into this inbox. The loop of its node told the caller that put it there that the node has left, and its log has the leave
+-- A leave was put into this inbox. The loop of its node told the caller that put it there that the node has left, at a moment of the node's own
+-- book that the caller then knows, and its log has the leave
 pub record LeftAsAsked (inbox : Inbox) : Type 0 where
   pub caller : Caller
   pub behind : Caller
   pub of : inbox_of caller ≡ inbox
+  pub still : inbox_of behind ≡ inbox
   pub put : Puts (task_for caller Leave) caller behind
-  pub told : IsToldTo inbox.node (ticket_of caller) (Ok Left) (told_of behind)
+  pub told : IsToldTo inbox.node (ticket_of caller) (Ok Left) (seen_of behind)
   pub left : HasLeft inbox.node
 
 -- so at this node of the cluster

@@ -5,7 +5,8 @@ use Rattle.node_loop.specs.declared.item.Item.{Item}
 use Rattle.node_loop.specs.declared.item.Item.TheVariants.{Letter, Task as TaskItem}
 use Rattle.node_loop.specs.declared.item.Task.{Task}
 use Rattle.node_threads.specs.declared.ruled_end.Traffic.{Traffic}
-use Rattle.node_threads.specs.Traffics.{Takes, most_letters}
+use Rattle.node_threads.specs.Traffics.{Takes}
+use Rattle.term.specs.declared.limits.TheConstants.{MOST_LETTERS}
 
 -- but for its lines, and so for all that it sends
 abbrev pub but_lines : Traffic → Traffic
@@ -23,10 +24,10 @@ is_letter (from, TaskItem k) = false
 -- while a task waits 64 letters are taken in a row at most
 abbrev pub LettersGiveWay : Type 0
 LettersGiveWay = (s : Traffic) (items : List (ℕ × Item)) → Takings s items → 0 < length s.waiting → AllPass is_letter items
-    → length items ≤ most_letters
+    → length items ≤ MOST_LETTERS
 
 -- A task before which so many others wait is among the next 130 items that are taken, and 130 more for each of those: the one that waits
 -- longest is taken with the second task at the latest, behind 64 letters before each
 abbrev pub TasksComeUp : Type 0
 TasksComeUp = (s : Traffic) (items : List (ℕ × Item)) (others : ℕ) (k : Task) → Takings s items → slice_get s.waiting others ≡ Some k
-    → 2 * (most_letters + 1) * (others + 1) ≤ length items → Contains (map (λ x. x.1) items) (TaskItem k)
+    → 2 * (MOST_LETTERS + 1) * (others + 1) ≤ length items → Contains (map (λ x. x.1) items) (TaskItem k)

@@ -1,9 +1,8 @@
 -- Which seats a cluster has.
 use Rattle.std.specs.Prelude.{ℕ, Bool, true, false, not, nat_lt, ◌||◌, ◌+◌, replicate, set}
 use Rattle.std.specs.List.{position_or_len}
-use Rattle.node_seats.specs.Callers.{seat_numbers}
+use Rattle.term.specs.declared.limits.TheConstants.{SEAT_NUMBERS, MOST_SEATS}
 use Rattle.node_seats.specs.declared.place.Place.{Place}
-use Rattle.node_seats.specs.declared.place.TheConstants.{MOST_SEATS}
 use Rattle.node_threads.specs.declared.seating.Seating.{Seating}
 
 abbrev pub no_seats : Seating
@@ -15,7 +14,7 @@ free_slot s = position_or_len not s.taken
 
 -- no slot is free, or no number is left
 abbrev pub are_spent : Seating → Bool
-are_spent s = not (nat_lt (free_slot s) MOST_SEATS) || not (nat_lt s.made seat_numbers)
+are_spent s = not (nat_lt (free_slot s) MOST_SEATS) || not (nat_lt s.made SEAT_NUMBERS)
 
 -- where the next seat is
 abbrev pub next_place : Seating → Place

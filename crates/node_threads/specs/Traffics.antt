@@ -3,7 +3,7 @@ use Rattle.std.specs.Prelude.{ℕ, Bool, true, false, nat_lt, nat_le, ◌&&◌, 
 use Rattle.std.specs.List.{position, remove}
 use Rattle.link.specs.declared.faults.LinkFault.{LinkFault}
 use Rattle.link.specs.declared.faults.LinkFault.TheVariants.{NoSuchNode, Full}
-use Rattle.link.specs.declared.mailbox.TheConstants.{INBOX_ROOM}
+use Rattle.term.specs.declared.limits.TheConstants.{INBOX_ROOM, MOST_LETTERS}
 use Rattle.link.specs.declared.mailbox.Mailbox.{Mailbox}
 use Rattle.link.specs.Mailboxes.{taken}
 use Rattle.node_loop.specs.declared.Call.{Call}
@@ -89,17 +89,13 @@ abbrev pub Serves : Task → Traffic → Traffic → Type 0
 Serves k s t = (next_place s < length s.waiting) × (k ≡ slice_index_or s.waiting (next_place s) k)
     × (t ≡ record s { waiting = remove s.waiting (next_place s); in_a_row = 0; has_passed = nat_lt 0 (next_place s) })
 
--- how many letters are taken in a row while a task waits
-abbrev pub most_letters : ℕ
-most_letters = 64
-
 -- a letter more is taken in a row
 abbrev pub counted : Traffic → Traffic
-counted s = record s { in_a_row = if nat_lt s.in_a_row most_letters then s.in_a_row + 1 else s.in_a_row }
+counted s = record s { in_a_row = if nat_lt s.in_a_row MOST_LETTERS then s.in_a_row + 1 else s.in_a_row }
 
 -- it is a task's turn: one waits, and so many letters were taken since the last
 abbrev pub is_tasks_turn : Traffic → Bool
-is_tasks_turn s = nat_lt 0 (length s.waiting) && nat_le most_letters s.in_a_row
+is_tasks_turn s = nat_lt 0 (length s.waiting) && nat_le MOST_LETTERS s.in_a_row
 
 -- A letter is taken, unless it is a task's turn; or the task that comes next, which is the node's own. Tasks that stood in the inbox before
 -- that wait; nothing else changed

@@ -5,6 +5,7 @@ ghost use Rattle.node_loop.specs.Coming.{IsLoopOf};
 ghost use Rattle.node_loop.specs.Editions.{opening};
 ghost use Rattle.node_loop.specs.Owing.{shown_by};
 ghost use Rattle.node_seats.specs.Moments.{moment};
+ghost use Rattle.term.specs.declared.limits.TheConstants.{MOST_NODES};
 
 use crate::running::{Running, Work};
 use crate::shared::Shared;
@@ -12,15 +13,14 @@ use link::Mailbox;
 use name_table::Names;
 use node_loop::{Gate, Item, NodeLoop, Opening, Record};
 use node_seats::{
-    Address, Caller, Host, IdleReaders, KeptPublisher, Line, MOST_READERS, Opened, Parcel,
-    Publisher, open_node,
+    Address, Caller, Host, IdleReaders, KeptPublisher, Line, Opened, Parcel, Publisher, open_node,
 };
 use std::alloc::{AllocError, Global};
 use std::marker::Model;
 use std::sync::{Arc, Wait};
 use std::thread::Threads;
 use std::time::Clock;
-use term::Node;
+use term::{MOST_READERS, Node};
 
 /// A node whose thread is yet to start: where it is reached, and what its thread is to work with. Contracts see its inbox, how many
 /// lines lead there, the core that it opens with, and its own lines.
@@ -55,7 +55,8 @@ impl<G: Gate + Drop, N: Names, L: Record, R: Wait + Drop> Model for Berth<G, N, 
     } };
 
     ghost invariant = { λ b. IsAtStart (inbox_at b.address) b.node b.lines.items b.mailbox × (inbox_of b.caller ≡ inbox_at b.address)
-        × Publishes b.node b.publisher.publisher × (b.publisher.publisher.known.book ≡ (inbox_at b.address).book) };
+        × Publishes b.node b.publisher.publisher × (b.publisher.publisher.known.book ≡ (inbox_at b.address).book)
+        × (b.publisher.publisher.known.book ≡ b.host.book) };
 }
 
 /// The publisher of the table of a node whose loop is at its start, and those by whom it is read.
@@ -97,7 +98,7 @@ where
         index: u32,
     ) -> Result<Self, AllocError>
         requires known { set_of opening.now.nodes node.now ≡ true }
-        requires index { index < 8 }
+        requires index { index < MOST_NODES }
         ensures name { IfOk result (λ berth. name_of berth.wired ≡ node.now) }
         ensures opened { IfOk result (IsOpened opening.now) }
     {

@@ -6,6 +6,7 @@ ghost use Rattle.term.specs.NodeSets.{set_of};
 ghost use Rattle.node_loop.specs.Openings.{start_refused, IsOpening};
 ghost use Rattle.node_threads.specs.Wires.{name_of, AreWired, IsCrew};
 ghost use Rattle.node_threads.specs.Berths.{wired_of, next_line, one_more, opened_of, IsOpened};
+ghost use Rattle.term.specs.declared.limits.TheConstants.{MOST_NODES};
 
 use crate::berth::Berth;
 use crate::shared::Shared;
@@ -31,7 +32,7 @@ where
     L: Record,
     R: Wait + Drop + Copy,
     requires known { All (λ c. set_of opening.now.nodes c ≡ true) nodes.now }
-    requires few { vec_len berths.old + length nodes.now ≤ 8 }
+    requires few { vec_len berths.old + length nodes.now ≤ MOST_NODES }
     requires opened { All (IsOpened opening.now) berths.old.items }
     ensures names { OnOk result (map name_of (wired_of berths.new.items) ≡ map name_of (wired_of berths.old.items) ++ nodes.now) }
     ensures opened { OnOk result (All (IsOpened opening.now) berths.new.items) }

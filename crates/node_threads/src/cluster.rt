@@ -325,7 +325,8 @@ where
     }
 
     /// Ends as `end` does, and gives the book of each node, too, in the order of the nodes. It covers the tokens of all seats at that node
-    /// (`Past::covers`): what they looked up they found in what the node's own thread showed, behind a beginning of the log that it left.
+    /// (`Past::covers`): what they looked up they found in what the node's own thread showed, behind a beginning of the log that it left, and
+    /// what they were answered stands in that log (`what_is_told_lasts`).
     pub fn end_telling<R: Threads>(self, rt: &R) -> Result<(EndedCluster<N>, Vec<Past>), EndFault>
         ensures { EndTells N.contents self.cluster self.lone self.crew result }
     {
@@ -364,7 +365,8 @@ where
     }
 
     /// Closes as `close` does, and gives the book of each node, too, in the order of the nodes. It covers the tokens of all seats at that node
-    /// (`Past::covers`): what they looked up they found in what the node's own thread showed, behind a beginning of the log that it left.
+    /// (`Past::covers`): what they looked up they found in what the node's own thread showed, behind a beginning of the log that it left, and
+    /// what they were answered stands in that log (`what_is_told_lasts`).
     pub fn close_telling<R: Threads>(
         self,
         rt: &R,

@@ -13,11 +13,12 @@ use crate::running::{Returned, Running};
 use crate::shared::Shared;
 use name_table::Names;
 use node_loop::{Gate, Item, NodeEnd, Record};
-use node_seats::{FreeSeat, Line, Past, Place, SLOTS};
+use node_seats::{FreeSeat, Line, Past, Place};
 use std::alloc::{AllocError, Global};
 use std::sync::Wait;
 use std::thread::Threads;
 use std::time::Clock;
+use term::SLOTS;
 
 /// What all threads gave back, in the order of their nodes.
 #[derive(Drop)]

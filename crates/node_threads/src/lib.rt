@@ -42,9 +42,9 @@ pub use ending::{EndFault, EndedCluster};
 pub use fairness::nobody_starves;
 pub use node_loop::{ForgottenLog, Gate, Log, OpenGate, Record, StartFault};
 pub use node_seats::{
-    Call, ForgottenNotes, FreeSeat, HolderSeat, KeptNotes, Line, MOST_SEATS, NameList, NodeStatus,
-    Nodes, Notes, Notice, NoticeList, Numbers, Parcel, Past, Reply, Retries, Seat, SeatFault,
-    StepFault, Token, Transcript,
+    Call, ForgottenNotes, FreeSeat, HolderSeat, KeptNotes, Line, NameList, NodeStatus, Nodes,
+    Notes, Notice, NoticeList, Numbers, Parcel, Past, Reply, Retries, Seat, SeatFault, StepFault,
+    Token, Transcript, what_is_told_lasts,
 };
 pub use replay::{CloseFault, Closed, HistoryEntry, KeptEntry};
 pub use ruled_end::{RuledEnd, Traffic};

@@ -5,7 +5,7 @@ ghost use Rattle.node_seats.specs.Lines.{place};
 ghost use Rattle.node_threads.specs.Givers.{receivers, node_under};
 ghost use Rattle.node_threads.specs.Traffics.{asks_nodes};
 
-use link::{INBOX_ROOM, Inbox, LinkFault, Mailbox, Post, Station, Unsent};
+use link::{Inbox, LinkFault, Mailbox, Post, Station, Unsent};
 use node_loop::{Call, Event, Item, Stamped, Task};
 use node_seats::{Line, Parcel};
 use std::alloc::Global;
@@ -13,10 +13,7 @@ use std::collections::{LinkedList, VecDeque};
 use std::marker::Model;
 use std::snapshot::Snapshot;
 use std::sync::Wait;
-use term::Node;
-
-/// How many letters are taken in a row while a task waits.
-const MOST_LETTERS: u32 = 64;
+use term::{INBOX_ROOM, MOST_LETTERS, Node};
 
 /// A node's own inbox, and its lines into the inboxes of all nodes. Of each node there is one, in the order of the numbers that the
 /// lines of the nodes have at an inbox: from 1 on. Letters come before tasks, up to a number of them, and tasks for which nodes are asked

@@ -19,8 +19,8 @@ use link::Mailbox;
 use name_table::Names;
 use node_loop::{Gate, Item, NodeEnd, NodeLoop, Record, TurnFault};
 use node_seats::{
-    Address, Caller, Host, Hub, KeptPublisher, Line, NodeStatus, Parcel, Past, Place, SLOTS,
-    SeatFault, Stop, Token,
+    Address, Caller, Host, Hub, KeptPublisher, Line, NodeStatus, Parcel, Past, Place, SeatFault,
+    Stop, Token,
 };
 use std::alloc::{AllocError, Global};
 use std::marker::Model;
@@ -29,7 +29,7 @@ use std::sync::{Arc, Wait};
 use std::thread;
 use std::thread::{Promise, PromisedHandle, Threads};
 use std::time::Clock;
-use term::Node;
+use term::{Node, SLOTS};
 
 /// What a thread gives back: what its node left behind, its lines, its end of its inbox, and the book of its node, sealed. There is none where
 /// the node had more moments than a `u64` counts.
@@ -135,21 +135,28 @@ fn tell<N: Names<Memory = Global>, L: Record>(node: &NodeLoop<N, L>, host: &Host
     }
 }
 
-/// Shows the node's readers what its last turn did, and hands its replies out then: whether they are shown all. As long as they aren't,
-/// replies wait, so that nobody is told of more than is shown.
+/// Writes down how the node stands, shows its readers what its last turn did, and hands its replies out then: whether readers are shown all. As
+/// long as they aren't, replies wait, so that nobody is told of more than is shown. There is nothing to do where they were shown all before, and
+/// the last turn did nothing.
 fn show<N: Names<Memory = Global>, L: Record, R: Wait + Drop>(
     rt: &R,
     node: &mut NodeLoop<N, L>,
-    host: &Host,
+    host: &mut Host,
     publisher: KeptPublisher<R>,
+    all: bool,
 ) -> (KeptPublisher<R>, bool)
     requires came { IsLoopOf node.old.log.node node.old }
     requires publishes { Publishes node.old publisher.publisher }
+    requires book { publisher.publisher.known.book ≡ host.old.book }
     ensures came { IsLoopOf node.old.log.node node.new }
     ensures publishes { Publishes node.new result.0.publisher }
     ensures book { result.0.publisher.known.book ≡ publisher.publisher.known.book }
     ensures kept { IsBesides node.old node.new }
+    ensures host { host.new ≡ host.old }
 {
+    if all && !node.worked() {
+        return (publisher, true);
+    }
     let (publisher, shown) = publisher.show(node);
     if shown {
         host.hand_out(rt, node, &publisher.publisher);
@@ -169,6 +176,7 @@ fn turns<G: Gate, N: Names<Memory = Global>, L: Record, R: Wait + Clock + Drop>(
 ) -> (KeptPublisher<R>, Stop)
     requires came { IsLoopOf node.old.log.node node.old }
     requires publishes { Publishes node.old publisher.publisher }
+    requires book { publisher.publisher.known.book ≡ host.old.book }
     ensures node { node.new.log.node ≡ node.old.log.node }
     ensures came { IsLoopOf node.old.log.node node.new }
     ensures publishes { Publishes node.new result.0.publisher }
@@ -178,14 +186,16 @@ fn turns<G: Gate, N: Names<Memory = Global>, L: Record, R: Wait + Clock + Drop>(
     ensures same { fixed end.new ≡ fixed end.old }
 {
     let mut publisher = publisher;
+    let mut shown = true;
     for _ in rt.forever() {
         if host.is_closing() {
             return (publisher, Stop::Asked);
         }
         let outcome = turn(node, end, gate);
         tell(node, host);
-        let (next, shown) = show(rt, node, host, publisher);
+        let (next, all) = show(rt, node, host, publisher, shown);
         publisher = next;
+        shown = all;
         if outcome.is_err() {
             return (publisher, Stop::Failed);
         }
@@ -201,6 +211,7 @@ fn run<G: Gate + Drop, N: Names<Memory = Global>, L: Record, R: Wait + Clock + D
 ) -> Ended<N, L>
     requires came { IsLoopOf work.node.log.node work.node }
     requires publishes { Publishes work.node work.publisher.publisher }
+    requires book { work.publisher.publisher.known.book ≡ work.host.book }
     ensures { IsOver work.node work.lines.items work.mailbox work.publisher.publisher.known.book (end_by N.contents L.logged result.end) result.lines.items result.mailbox result.past }
 {
     let Work {
@@ -239,6 +250,7 @@ where
     R: Threads + Wait + Clock + Drop + Copy + Send + 'static,
     requires came { IsLoopOf work.node.log.node work.node }
     requires publishes { Publishes work.node work.publisher.publisher }
+    requires book { work.publisher.publisher.known.book ≡ work.host.book }
     ensures node { IfOk result (λ handle. handle.promise.0.value ≡ work.node) }
     ensures lines { IfOk result (λ handle. handle.promise.1.value ≡ work.lines) }
     ensures mailbox { IfOk result (λ handle. handle.promise.2.value ≡ work.mailbox) }
@@ -258,6 +270,7 @@ where
             requires sends { IsSend G.row × IsSend N.row × IsSend L.row × IsSend R.row × IsSync G.row }
             requires came { IsLoopOf work.node.log.node work.node }
             requires publishes { Publishes work.node work.publisher.publisher }
+            requires book { work.publisher.publisher.known.book ≡ work.host.book }
             ensures { IsOver work.node work.lines.items work.mailbox work.publisher.publisher.known.book (end_by N.contents L.logged result.end) result.lines.items result.mailbox result.past }
         { run(&own, work) },
     )?;
@@ -285,6 +298,7 @@ impl<N: Names<Memory = Global> + Send + 'static, L: Record + Send + 'static> Run
         requires start { IsAtStart (inbox_at address) work.node work.lines.items work.mailbox }
         requires asks { inbox_of caller ≡ inbox_at address }
         requires book { work.publisher.publisher.known.book ≡ (inbox_at address).book }
+        requires host { work.publisher.publisher.known.book ≡ work.host.book }
         requires publishes { Publishes work.node work.publisher.publisher }
         ensures { IfOk result (λ running. running ≡ record { inbox = inbox_at address; core = work.node.core; lines = work.lines.items }) }
     {

@@ -3,7 +3,8 @@ ghost use Rattle.std.specs.Prelude.{◌≡◌, true, false, not, MatchOption};
 ghost use Rattle.std.specs.List.{position};
 ghost use Rattle.node_threads.specs.Seating.{no_seats, next_place, are_spent, with_seat, without_slot};
 
-use node_seats::{MOST_SEATS, Place, SEAT_NUMBERS};
+use node_seats::Place;
+use term::{MOST_SEATS, SEAT_NUMBERS};
 
 /// Which slots have a seat, and how many seats were made, of which the next one has the number.
 #[derive(Drop)]

@@ -1,6 +1,7 @@
 -- The words in which rows are written.
 use Rattle.std.specs.Prelude.{ℕ, ◌==◌, Some, None, map, List, [], ◌∷◌, ◌++◌}
 use Rattle.std.specs.List.{list_any}
+use Rattle.registry_model.specs.declared.limits.TheConstants.{SETTLE_LIMIT}
 use Rattle.registry_model.specs.Process.{Text, Process}
 use Rattle.registry_model.specs.Table.{Rule, Table}
 use Rattle.registry_model.specs.Call.{NameCall, Reply, Whereis, RegisteredNames, NoticesOf}
@@ -10,13 +11,9 @@ use Rattle.protocol_model.specs.Event.{Call, Event}
 use Rattle.protocol_model.specs.World.{Opening, At, Deliver}
 use Rattle.protocol_model.specs.Script.{Line, Play, Output, Said, Row}
 
--- the most deliveries of one `Settle` in a script
-abbrev pub usual_limit : ℕ
-usual_limit = 100000
-
--- a row with the usual limit
+-- a row with the limit of scripts
 abbrev pub row : Opening → List Line → List Output → Row
-row o lines prints = record { opening = o; limit = usual_limit; lines = lines; prints = prints }
+row o lines prints = record { opening = o; limit = SETTLE_LIMIT; lines = lines; prints = prints }
 
 -- the first of these nodes are joined with each other, the second are lone; all are below the bound
 abbrev pub world_of : ℕ → List ℕ → List ℕ → Opening

@@ -1,5 +1,6 @@
 -- Texts, processes, and sets of nodes.
 use Rattle.std.specs.Prelude.{ℕ, Bool, true, false, zero, suc, ◌==◌, ◌&&◌, ◌+◌, ◌-◌, ◌*◌, ◌^◌, List, [], ◌∷◌, ◌++◌, if◌then◌else◌}
+use Rattle.registry_model.specs.declared.limits.TheConstants.{LONGEST_TEXT}
 
 -- A text, as a name, a resource or a requester, is a number: the place of its bytes in the byte order of all texts. All that
 -- the registry asks of texts is whether two are one, and which is the lesser. A node is the text of its name
@@ -11,13 +12,9 @@ abbrev pub place_in : ℕ → List ℕ → Text
 place_in k [] = 0
 place_in k (b ∷ bs) = b * 256 ^ (k - 1) + place_in (k - 1) bs
 
--- no text is longer than this
-abbrev pub longest : ℕ
-longest = 64
-
--- the text of these bytes
+-- the text of these bytes, which are no more than a text has at most
 abbrev pub text_of : List ℕ → Text
-text_of bytes = place_in longest bytes
+text_of bytes = place_in LONGEST_TEXT bytes
 
 -- a process; serial 0 is the registrar of its node, which is never live
 pub record Process : Type 0 where

@@ -5,7 +5,8 @@ use Rattle.std.proofs.Math.Bool.{or_assoc, or-false}
 use Rattle.std.proofs.lemmas.Bool.Decides.{nat_tests}
 use Rattle.std.proofs.lemmas.Grind.{take_at_read}
 use Rattle.std.proofs.lemmas.List.Folds.{list_any-append}
-use Rattle.term.specs.NodeSets.{most_nodes, set_of, with_node, HasNoRoom}
+use Rattle.term.specs.NodeSets.{set_of, with_node, HasNoRoom}
+use Rattle.term.specs.declared.limits.TheConstants.{MOST_NODES}
 use Rattle.term.specs.declared.faults.TextFault.{TextFault}
 
 -- of a list no more nodes are less and greater than one than there are
@@ -44,7 +45,7 @@ next xs i x below item c =
 
 -- so many of these nodes were put into a set, which may have had no room for all of them
 pub record Gathers (start nodes : List ℕ) (i : ℕ) (now : List ℕ) : Type 0 where
-  pub all : length start + length nodes ≤ most_nodes → (c : ℕ)
+  pub all : length start + length nodes ≤ MOST_NODES → (c : ℕ)
       → set_of now c ≡ (set_of start c || set_of (take i nodes) c)
   pub room : length now ≤ length start + i
 

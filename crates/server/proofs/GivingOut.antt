@@ -3,7 +3,8 @@ use Rattle.std.proofs.Common.{ℕ, zero, suc, Bool, ◌≡◌, ◌≤◌, ◌+�
 use Rattle.std.specs.Prelude.{◌||◌, OnOk, OnErr}
 use Rattle.std.specs.Io.KnownBytes.{Appends}
 use Rattle.std.proofs.KnownBytes.{Appends-kept, Appends-trans}
-use Rattle.term.specs.NodeSets.{most_nodes, set_of}
+use Rattle.term.specs.NodeSets.{set_of}
+use Rattle.term.specs.declared.limits.TheConstants.{MOST_NODES}
 use Rattle.term.proofs.Subsets.{set_of-append}
 use Rattle.text_lines.proofs.Written.{AppendsPart-behind}
 use Rattle.node_threads.specs.Openings.{start_refused}
@@ -54,7 +55,7 @@ gives_keep c d r = subst (λ (x : Crewed). (x.cluster ≡ c.cluster) × (x.lone 
 
 -- the set of the nodes of both lists has those of a cluster that began with them
 pub all_nodes : (cluster lone nodes : List ℕ) (c : Crewed) → start_refused cluster lone ≡ None → c.cluster ≡ cluster → c.lone ≡ lone
-    → (length cluster + length lone ≤ most_nodes → (n : ℕ) → set_of nodes n ≡ (set_of cluster n || set_of lone n)) → AreAll nodes c
+    → (length cluster + length lone ≤ MOST_NODES → (n : ℕ) → set_of nodes n ≡ (set_of cluster n || set_of lone n)) → AreAll nodes c
 all_nodes cluster lone nodes c fine joined others all n =
     all (omega (arith, few cluster lone fine, length-append cluster lone)) n ∙ sym (set_of-append cluster lone n)
     ∙ (λ j. set_of (sym joined j ++ sym others j) n)

@@ -5,7 +5,7 @@ use Rattle.node_threads.specs.declared.SeatFault.{SeatFault}
 use Rattle.node_threads.specs.Seats.{Sitting}
 use Rattle.console.specs.Consoles.{Serves, Stops}
 use Rattle.console.specs.Seats.{SeatAnswers, SeatStands, IsTranscript}
-use Rattle.text_lines.specs.Lines.{most_lines}
+use Rattle.term.specs.declared.limits.TheConstants.{MOST_LINES}
 use Rattle.text_lines.specs.declared.faults.StreamFault.{StreamFault}
 use Rattle.server.specs.Attending.{Place, Talks, IsSeated, IsUnseated, Attends, Sits}
 use Rattle.server.specs.declared.served.Start.{Start}
@@ -17,8 +17,8 @@ use Rattle.server.specs.Served.{LeavesBehind}
 abbrev pub Ends : Option (List ℕ) → Option (List ℕ) → Option (List ℕ) → Option (List ℕ) → Sitting
     → Result Transcript (StreamFault × Transcript) → Type 0
 Ends input rest old new s r = MatchResult r
-    (λ transcript. (t : Sitting) × IsTranscript t transcript × Serves SeatAnswers SeatStands false most_lines input rest old new s t)
-    (λ ended. (t : Sitting) × IsTranscript t ended.1 × Stops SeatAnswers SeatStands false most_lines input rest old new s t ended.0)
+    (λ transcript. (t : Sitting) × IsTranscript t transcript × Serves SeatAnswers SeatStands false MOST_LINES input rest old new s t)
+    (λ ended. (t : Sitting) × IsTranscript t ended.1 × Stops SeatAnswers SeatStands false MOST_LINES input rest old new s t ended.0)
 
 module _ (input rest old new : Option (List ℕ)) (s : Sitting) (x : Transcript) where
   pub talked : (r : Result Transcript (StreamFault × Transcript))

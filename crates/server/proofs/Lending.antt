@@ -5,7 +5,8 @@ use Rattle.std.proofs.lemmas.List.Elements.{All-nil, All-push}
 use Rattle.node_threads.specs.Seats.{Sitting, first_at}
 use Rattle.text_lines.specs.declared.faults.StreamFault.{StreamFault}
 use Rattle.console.specs.declared.ends.ConsoleEnd.{ConsoleEnd}
-use Rattle.console.specs.Consoles.{EndsBy, Stops, most_staying}
+use Rattle.console.specs.Consoles.{EndsBy, Stops}
+use Rattle.term.specs.declared.limits.TheConstants.{STAYING_LINES}
 use Rattle.console.specs.Knowing.{Known, nothing_known}
 use Rattle.console.specs.Lent.{LentAnswers, LentStands}
 use Rattle.server.specs.declared.staying.notes.Parting.{Parting}
@@ -47,20 +48,20 @@ one_seat_more node many seats roomy more next s same is are made = record {
 -- so a console ended, well or with a fault, at the first node of a name, which is seen as that name
 pub served_at : (node first : ℕ) → first ≡ node → (input rest old new : Option (List ℕ)) (ended : Result ConsoleEnd StreamFault)
     (parting : Parting) → MatchResult ended
-    (λ how. (known : Known) × EndsBy LentAnswers LentStands true most_staying input rest old new (nothing_known first) known how)
-    (λ fault. (known : Known) × Stops LentAnswers LentStands true most_staying input rest old new (nothing_known first) known fault)
+    (λ how. (known : Known) × EndsBy LentAnswers LentStands true STAYING_LINES input rest old new (nothing_known first) known how)
+    (λ fault. (known : Known) × Stops LentAnswers LentStands true STAYING_LINES input rest old new (nothing_known first) known fault)
     → parting ≡ parting_of ended → IsServedAt node input rest old new parting
 served_at node first same input rest old new (Ok how) parting talked parted = record {
   known = talked.0;
   ended = Ok how;
   talks = subst
-      (λ (n : ℕ). EndsBy LentAnswers LentStands true most_staying input rest old new (nothing_known n) talked.0 how) same talked.1;
+      (λ (n : ℕ). EndsBy LentAnswers LentStands true STAYING_LINES input rest old new (nothing_known n) talked.0 how) same talked.1;
   parted = parted;
 }
 served_at node first same input rest old new (Err fault) parting stopped parted = record {
   known = stopped.0;
   ended = Err fault;
   talks = subst
-      (λ (n : ℕ). Stops LentAnswers LentStands true most_staying input rest old new (nothing_known n) stopped.0 fault) same stopped.1;
+      (λ (n : ℕ). Stops LentAnswers LentStands true STAYING_LINES input rest old new (nothing_known n) stopped.0 fault) same stopped.1;
   parted = parted;
 }

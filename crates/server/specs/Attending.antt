@@ -5,7 +5,7 @@ use Rattle.node_threads.specs.declared.Transcript.{Transcript}
 use Rattle.node_threads.specs.Seats.{Sitting, first_at}
 use Rattle.node_threads.specs.declared.SeatFault.{SeatFault}
 use Rattle.console.specs.Printing.{error_line}
-use Rattle.text_lines.specs.Lines.{most_lines}
+use Rattle.term.specs.declared.limits.TheConstants.{MOST_LINES}
 use Rattle.text_lines.specs.Writing.{AppendsPart}
 use Rattle.text_lines.specs.declared.faults.StreamFault.{StreamFault}
 use Rattle.console.specs.Consoles.{Serves, Stops}
@@ -26,7 +26,7 @@ Reaches nodes place = IfOk place (λ free. (n : ℕ) → set_of nodes n ≡ true
 -- the console read its lines and wrote their answers so, until it ended well or with a fault
 abbrev pub Talks : Option (List ℕ) → Option (List ℕ) → Option (List ℕ) → Option (List ℕ) → Sitting → Sitting → Type 0
 Talks input rest old new s t =
-    Serves SeatAnswers SeatStands false most_lines input rest old new s t ⊎ ((f : StreamFault) × Stops SeatAnswers SeatStands false most_lines input rest old new s t f)
+    Serves SeatAnswers SeatStands false MOST_LINES input rest old new s t ⊎ ((f : StreamFault) × Stops SeatAnswers SeatStands false MOST_LINES input rest old new s t f)
 
 -- it was served at its seat at this node, and this is the transcript
 pub record IsSeated (node : ℕ) (input rest old new : Option (List ℕ)) (free : List Sitting) (transcript : Transcript) : Type 0 where

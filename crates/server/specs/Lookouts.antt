@@ -1,6 +1,7 @@
 -- Of which nodes it is told that their numbers are nearly spent.
 use Rattle.std.specs.Prelude.{ℕ, Bool, true, false, ◌≡◌, ◌*◌, ◌⊎◌, length, nat_lt, List, []}
-use Rattle.term.specs.NodeSets.{most_nodes, set_of, with_node}
+use Rattle.term.specs.NodeSets.{set_of, with_node}
+use Rattle.term.specs.declared.limits.TheConstants.{MOST_NODES}
 
 -- the greatest number of 32 bits
 abbrev pub greatest : ℕ
@@ -25,4 +26,4 @@ IsNews told n last now = (nearly_spent last ≡ true) × (set_of told n ≡ fals
 -- they aren't, or it was told before; or it was told of as many other nodes as there may be
 abbrev pub IsOld : List ℕ → ℕ → ℕ → List ℕ → Type 0
 IsOld told n last now =
-    (now ≡ told) × ((nearly_spent last ≡ false) ⊎ (set_of told n ≡ true) ⊎ (length told ≡ most_nodes))
+    (now ≡ told) × ((nearly_spent last ≡ false) ⊎ (set_of told n ≡ true) ⊎ (length told ≡ MOST_NODES))

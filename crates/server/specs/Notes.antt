@@ -7,6 +7,7 @@ use Rattle.text_lines.specs.declared.faults.StreamFault.TheVariants as fault
 use Rattle.console.specs.declared.ends.ConsoleEnd.{ConsoleEnd}
 use Rattle.console.specs.declared.ends.ConsoleEnd.TheVariants as by
 use Rattle.console.specs.declared.status.Load.{Load}
+use Rattle.server.specs.declared.staying.descriptors.TheConstants.{OTHERS}
 use Rattle.server.specs.declared.staying.desk.Message.{Message}
 use Rattle.server.specs.declared.staying.desk.Message.TheVariants as message
 use Rattle.server.specs.declared.staying.notes.Note.{Note}
@@ -56,9 +57,9 @@ abbrev pub note_if : Bool → Supply → ℕ → Option Note
 note_if true supply node = Some (Spent supply node)
 note_if false supply node = None
 
--- for how many consoles the descriptors serve, of which so many may be open and so many are: two are needed otherwise
+-- for how many consoles the descriptors serve, of which so many may be open and so many are: some are needed otherwise
 abbrev pub served_by : ℕ → ℕ → ℕ
-served_by most in_use = most - in_use - 2
+served_by most in_use = most - in_use - OTHERS
 
 -- what is told where they serve for so many, and so many are wanted
 abbrev pub note_if_short : ℕ → ℕ → Option Note

@@ -4,6 +4,7 @@ use Rattle.std.specs.Global.{Global}
 use Rattle.std.specs.declared.thread.PromisedHandle.{PromisedHandle}
 use Rattle.std.specs.Io.KnownBytes.{Appends, Keeps}
 use Rattle.registry_model.specs.Table.{Table}
+use Rattle.term.specs.declared.limits.TheConstants.{ENTRANCES, MOST_SEATS}
 use Rattle.term.specs.NodeSets.{set_of}
 use Rattle.term.specs.Spelling.{node_bytes}
 use Rattle.console.specs.Printing.{error_line}
@@ -45,9 +46,9 @@ pub record GivesOut (c d : Crewed) : Type 0 where
   pub many : ℕ
   pub is : d ≡ seated many c
 
--- how many seats each of so many nodes has that a server lends: 64 are parted evenly
+-- how many seats each of so many nodes has that a server lends: all that there are at once, parted evenly
 abbrev pub share : ℕ → ℕ
-share nodes = if nodes == 0 then 0 else 64 / nodes
+share nodes = if nodes == 0 then 0 else MOST_SEATS / nodes
 
 -- these are so many seats of this node
 pub record AreSeatsOf (node many : ℕ) (seats : List Sitting) : Type 0 where
@@ -58,9 +59,9 @@ pub record AreSeatsOf (node many : ℕ) (seats : List Sitting) : Type 0 where
 abbrev pub AreAll : List ℕ → Crewed → Type 0
 AreAll nodes c = (n : ℕ) → set_of nodes n ≡ set_of (nodes_in c) n
 
--- how many workers a server has that has places for so many consoles: sixteen more, as far as they can be counted
+-- how many workers a server has that has places for so many consoles: some more, as far as they can be counted
 abbrev pub workers_for : ℕ → ℕ
-workers_for consoles = min (consoles + 16) 4294967295
+workers_for consoles = min (consoles + ENTRANCES) 4294967295
 
 -- the threads of a server, by the nodes that each was started for
 abbrev pub Crew : Type 0

@@ -8,7 +8,8 @@ use Rattle.text_lines.specs.declared.faults.StreamFault.{StreamFault}
 use Rattle.console.specs.declared.ends.ConsoleEnd.{ConsoleEnd}
 use Rattle.console.specs.declared.faults.GreetFault.{GreetFault}
 use Rattle.console.specs.declared.faults.GreetFault.TheVariants.{TooManyConsoles}
-use Rattle.console.specs.Consoles.{EndsBy, Stops, most_staying}
+use Rattle.console.specs.Consoles.{EndsBy, Stops}
+use Rattle.term.specs.declared.limits.TheConstants.{STAYING_LINES}
 use Rattle.console.specs.Greetings.{Greets, GreetStops, HasNoFirst, LineAttaches, ReadsFirst, ShowsFirst, StopsFirst, greeting_text, okay}
 use Rattle.console.specs.Lent.{LentAnswers, LentStands}
 use Rattle.server.specs.declared.staying.notes.Parting.{Parting}
@@ -18,8 +19,8 @@ use Rattle.server.specs.Notes.{parting_of}
 pub record IsServedAt (node : ℕ) (input rest old new : Option (List ℕ)) (parting : Parting) : Type 0 where
   pub known : Known
   pub ended : Result ConsoleEnd StreamFault
-  pub talks : MatchResult ended (EndsBy LentAnswers LentStands true most_staying input rest old new (nothing_known node) known)
-      (Stops LentAnswers LentStands true most_staying input rest old new (nothing_known node) known)
+  pub talks : MatchResult ended (EndsBy LentAnswers LentStands true STAYING_LINES input rest old new (nothing_known node) known)
+      (Stops LentAnswers LentStands true STAYING_LINES input rest old new (nothing_known node) known)
   pub parted : parting ≡ parting_of ended
 
 -- it was greeted, showed the cookie if there is one, and was attached to one of these nodes, at which it was served

@@ -1,6 +1,7 @@
 //! Serving a cluster, from its start to the line that tells how it closed.
 ghost use Rattle.std.specs.Prelude.{◌≡◌, ◌+◌, ◌≤◌, ◌||◌, ℕ, None, MatchResult, length};
-ghost use Rattle.term.specs.NodeSets.{most_nodes, set_of};
+ghost use Rattle.term.specs.NodeSets.{set_of};
+ghost use Rattle.term.specs.declared.limits.TheConstants.{MOST_NODES};
 ghost use Rattle.node_threads.specs.Openings.{start_refused};
 ghost use Rattle.server.specs.Served.{transcripts_in};
 ghost use Rattle.server.specs.Serving.{Tells, Fails, ServesCluster};
@@ -25,7 +26,7 @@ pub(crate) const YIELDS: u32 = 500;
 
 /// Puts the first nodes of these names into a set. Where it has no room for all of them, some are left out.
 fn put_all(set: &mut NodeSet, nodes: &[NodeName])
-    ensures all { length set.old + length nodes.now ≤ most_nodes
+    ensures all { length set.old + length nodes.now ≤ MOST_NODES
         → (c : ℕ) → set_of set.new c ≡ (set_of set.old c || set_of nodes.now c) }
     ensures room { length set.new ≤ length set.old + length nodes.now }
 {
@@ -36,7 +37,7 @@ fn put_all(set: &mut NodeSet, nodes: &[NodeName])
 
 /// The set of all these names, of which there are eight at most.
 pub(crate) fn set_of_all(cluster: &[NodeName], lone: &[NodeName]) -> NodeSet
-    ensures { length cluster.now + length lone.now ≤ most_nodes
+    ensures { length cluster.now + length lone.now ≤ MOST_NODES
         → (c : ℕ) → set_of result c ≡ (set_of cluster.now c || set_of lone.now c) }
 {
     let mut set = NodeSet::empty();

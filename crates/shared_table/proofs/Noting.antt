@@ -1,9 +1,9 @@
 -- What a loop owes its readers is taken, and written down with the moment at which it stands then.
-use Rattle.std.proofs.Common.{◌≡◌, false, List, [], ◌∷◌, ◌++◌, Some, ap, sym, subst}
+use Rattle.std.proofs.Common.{◌≡◌, ◌∙◌, false, List, [], ◌∷◌, ◌++◌, Some, ap, sym, subst}
 use Rattle.node_books.specs.declared.Update.{Update}
 use Rattle.node_books.specs.declared.Edition.{Edition}
 use Rattle.node_books.specs.Held.{Looping}
-use Rattle.node_books.specs.Owing.{Owes, TakesUpdate}
+use Rattle.node_books.specs.Owing.{shown_by, Owes, TakesUpdate}
 use Rattle.node_books.specs.declared.moment.Moment.{Moment}
 use Rattle.node_books.specs.Books.{Known}
 use Rattle.node_books.specs.Moments.{moment, Follows, shown_at}
@@ -21,4 +21,13 @@ follows_noted a b u taken known more owes added =
     let is : more.log ≡ known.log ++ moment false b ∷ [] = ap (λ (k : Known). k.log) added in
     let last : Owes b (shown_at (known.log ++ moment false b ∷ [])) =
     subst (λ (e : Edition). Owes b e) (sym (shown_behind known.log b)) (owes_nothing a b u taken (shown_at known.log) owes) in
+    subst (λ (ms : List Moment). Follows ms b × Owes b (shown_at ms)) (sym is) (follows_behind known.log b, last)
+
+-- nothing was owed, and its moment is the last one
+pub follows_again : (b : Looping) (known more : Known) → Owes b (shown_at known.log) → shown_at known.log ≡ shown_by b
+    → more ≡ record known { log = known.log ++ moment false b ∷ [] } → Follows more.log b × Owes b (shown_at more.log)
+follows_again b known more owes same added =
+    let is : more.log ≡ known.log ++ moment false b ∷ [] = ap (λ (k : Known). k.log) added in
+    let last : Owes b (shown_at (known.log ++ moment false b ∷ [])) =
+    subst (λ (e : Edition). Owes b e) (same ∙ sym (shown_behind known.log b)) owes in
     subst (λ (ms : List Moment). Follows ms b × Owes b (shown_at ms)) (sym is) (follows_behind known.log b, last)

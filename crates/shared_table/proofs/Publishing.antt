@@ -79,6 +79,15 @@ sound_more known x us mark sound n s book log count up =
       knows = sound.knows;
     }
 
+-- one moment more is written down, which shows what the last one does
+pub sound_again : (known more : Known) (x : Shown) (us : List Stamp) (mark : Mark) (b : Looping) → IsSound known x us mark
+    → more ≡ record known { log = known.log ++ moment false b ∷ [] } → shown_at known.log ≡ shown_by b → IsSound more x us mark
+sound_again known more x us mark b sound added same = subst (λ (k : Known). IsSound k x us mark) (sym added) (record {
+  so = sound.so;
+  last = sound.last ∙ (same ∙ sym (shown_behind known.log b));
+  knows = sound.knows;
+})
+
 -- none is held back
 pub none_held : (held : Option Stamp) → is_some held ≡ false → held_back held ≡ []
 none_held None e = refl

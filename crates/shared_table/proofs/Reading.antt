@@ -1,5 +1,5 @@
 -- What a reader then knows.
-use Rattle.std.proofs.Common.{◌≡◌, ◌≤◌, ◌<◌, ℕ, Option, Some, MatchOption, List, [], ◌∷◌, ◌++◌, length, sym, ap, subst, arith, refl, ◌∙◌}
+use Rattle.std.proofs.Common.{◌≡◌, ◌≤◌, ◌<◌, ℕ, max, Option, Some, MatchOption, List, [], ◌∷◌, ◌++◌, length, sym, ap, subst, arith, refl, ◌∙◌}
 use mathlib.Core.List.{IsPrefix}
 use Rattle.node_books.specs.Held.{Looping}
 use Rattle.node_books.specs.Coming.{IsLoopOf}
@@ -10,7 +10,7 @@ use Rattle.node_books.specs.Moments.{AreMoments, shown_at, Rises, last_from}
 use Rattle.node_books.proofs.Beginnings.{prefix_self}
 use Rattle.node_books.proofs.Onward.{loop_on, logs_only_grow}
 use Rattle.node_books.proofs.Showing.{lengths_tell}
-use Rattle.shared_table.specs.Readers.{Seen, Reads, IsBehind}
+use Rattle.shared_table.specs.Readers.{Seen, Hears, Reads, IsBehind}
 
 -- of what is there
 pub from_some : {A : Type 0} (N : Type 0) (P : A → Type 0) (o : Option A) (x : A) → o ≡ Some x → MatchOption o N P → P x
@@ -77,6 +77,31 @@ same_node (x ∷ xs) (y ∷ ys) (b ∷ bs) p q some any h =
     let first : Rises x xs = (moments_front (x ∷ xs) p.0 (subst AreMoments (sym p.1) h)).1 in
     let second : Rises y ys = (moments_front (y ∷ ys) q.0 (subst AreMoments (sym q.1) h)).1 in
     named_at y ys second ∙ (ap (λ (m : Moment). m.node.log.node) (other ∙ sym one) ∙ sym (named_at x xs first))
+
+-- what a reader knows that was told of the moments got
+module _ (home mine got both : List Moment) (begins : IsPrefix home both) (p : IsPrefix mine both) (q : IsPrefix got both) (h : AreMoments both) (known : 0 < length home) (node : ℕ) (own : (shown_at home).node ≡ node) (old new : Seen) (book : new.known.book ≡ old.known.book) (was : old.known.log ≡ mine) (any : 0 < length got) (told : new.told ≡ max old.told (shown_at got).length) where
+  -- they are more than it knew
+  pub hears_new : length mine ≤ length got → new.known.log ≡ got → Hears node got old new
+  hears_new short is = record {
+    book = book;
+    later = rw (was, is) (new_begins mine got both p q h short);
+    begins = rw is (prefix_self got);
+    moments = rw is (moments_front got q.0 (subst AreMoments (sym q.1) h));
+    own = ap (λ (ms : List Moment). (shown_at ms).node) is ∙ (same_node home got both begins q known any h ∙ own);
+    length_is = told;
+  }
+
+  -- or none that it didn't know
+  pub hears_old : length got ≤ length mine → new.known.log ≡ mine → Hears node got old new
+  hears_old short is =
+      let some : 0 < length mine = omega (arith, any, short) in record {
+        book = book;
+        later = rw (was, is) (prefix_self mine);
+        begins = rw is (prefix_shorter got mine both q p short);
+        moments = rw is (moments_front mine p.0 (subst AreMoments (sym p.1) h));
+        own = ap (λ (ms : List Moment). (shown_at ms).node) is ∙ (same_node home mine both begins p known some h ∙ own);
+        length_is = told;
+      }
 
 -- what a reader knows, behind a read in the last of the moments got
 module _ (home mine got both : List Moment) (begins : IsPrefix home both) (p : IsPrefix mine both) (q : IsPrefix got both) (h : AreMoments both) (known : 0 < length home) (node : ℕ) (own : (shown_at home).node ≡ node) (old new : Seen) (book : new.known.book ≡ old.known.book) (was : old.known.log ≡ mine) (any : 0 < length got) (told : new.told ≡ (shown_at got).length) (late : old.told ≤ (shown_at got).length) where

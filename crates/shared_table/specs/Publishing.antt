@@ -1,11 +1,12 @@
 -- What was published, and what waits.
-use Rattle.std.specs.Prelude.{◌≡◌, List, [], ◌∷◌, fold, Option, Some, None}
+use Rattle.std.specs.Prelude.{◌≡◌, ◌++◌, false, List, [], ◌∷◌, fold, Option, Some, None}
 use Rattle.logbook.specs.Pages.{Book}
 use Rattle.node_books.specs.declared.Edition.{Edition}
 use Rattle.node_books.specs.Held.{Looping}
 use Rattle.node_books.specs.Owing.{Owes}
+use Rattle.node_books.specs.declared.moment.Moment.{Moment}
 use Rattle.node_books.specs.Books.{Known}
-use Rattle.node_books.specs.Moments.{Follows, shown_at}
+use Rattle.node_books.specs.Moments.{moment, Follows, shown_at}
 use Rattle.shared_table.specs.declared.shown.Shown.{Shown}
 use Rattle.shared_table.specs.declared.shown.Front.{Front}
 use Rattle.shared_table.specs.declared.shown.Stamp.{Stamp}
@@ -39,3 +40,7 @@ Publishes a p = Follows p.known.log a × Owes a (shown_at p.known.log)
 -- all that was written is shown
 abbrev pub IsAllShown : Progress → Type 0
 IsAllShown p = p.shown ≡ shown_at p.known.log
+
+-- the last moment that was written is that at which the loop stands
+abbrev pub IsWritten : Looping → Progress → Type 0
+IsWritten a p = (before : List Moment) × (p.known.log ≡ before ++ moment false a ∷ [])

@@ -1,5 +1,5 @@
 -- What a reader has seen, and what it finds.
-use Rattle.std.specs.Prelude.{◌≡◌, ◌<◌, ◌≤◌, ℕ, true, false, List, [], Option, Some, None, length}
+use Rattle.std.specs.Prelude.{◌≡◌, ◌<◌, ◌≤◌, ℕ, max, true, false, List, [], Option, Some, None, length}
 use mathlib.Core.List.{IsPrefix}
 use Rattle.registry_model.specs.Process.{Text}
 use Rattle.registry_model.specs.Table.{get}
@@ -51,6 +51,16 @@ pub record Reads (node : ℕ) (old new : Seen) : Type 0 where
   pub own : (shown_at new.known.log).node ≡ node
   pub rises : old.told ≤ new.told
   pub told : new.told ≡ (shown_at new.known.log).length
+
+-- It was told of these moments. They, and those that it knew before, begin the moments that are then known, which are of the same book and of
+-- this node's loop; and it was told how long a log the last of them shows
+pub record Hears (node : ℕ) (told : List Moment) (old new : Seen) : Type 0 where
+  pub book : new.known.book ≡ old.known.book
+  pub later : IsPrefix old.known.log new.known.log
+  pub begins : IsPrefix told new.known.log
+  pub moments : AreMoments new.known.log
+  pub own : (shown_at new.known.log).node ≡ node
+  pub length_is : new.told ≡ max old.told (shown_at told).length
 
 -- a moment of this node's loop was read that shows a shorter log than was told: nothing is answered from it
 pub record IsBehind (node : ℕ) (old new : Seen) : Type 0 where

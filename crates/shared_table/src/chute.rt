@@ -1,14 +1,14 @@
 //! Queues between threads whose items are all of one book.
-ghost use Rattle.std.specs.Prelude.{◌≡◌, ◌<◌, IfOk, IfSome, IfErr};
+ghost use Rattle.std.specs.Prelude.{◌≡◌, ◌<◌, IfOk, IfSome, OnOk, IfErr};
 ghost use Rattle.shared_table.specs.Chutes.{IsChute};
 
 use crate::rule::{Mark, Notes};
-use crossbeam_queue::protocol::{Outcome, Protocol};
+use crossbeam_queue::protocol::{Lesson, Outcome, Protocol};
 use crossbeam_queue::{Pass, RuledArrayQueue};
 use node_books::Token;
 use std::alloc::{AllocError, Global};
 use std::marker::Model;
-use std::sync::Arc;
+use std::sync::{Arc, Wait};
 
 /// What is of the book of some node.
 pub trait Stamped: Drop {
@@ -39,6 +39,10 @@ impl<T: Stamped> Outcome<T, Mark> for Puts {
     ghost then = { λ v x w. Stays T.token v x w };
 }
 
+impl<T: Stamped> Lesson<T, Mark> for Puts {
+    ghost fact = { λ v items. Unit {0} };
+}
+
 /// Something is taken.
 pub(crate) struct Takes;
 
@@ -46,6 +50,10 @@ impl<T: Stamped> Outcome<T, Mark> for Takes {
     ghost use Rattle.shared_table.specs.Chutes.{Gives};
 
     ghost then = { λ v x w. Gives T.token v x w };
+}
+
+impl<T: Stamped> Lesson<T, Mark> for Takes {
+    ghost fact = { λ v items. Unit {0} };
 }
 
 type Queue<T> = RuledArrayQueue<T, Mark, Same>;
@@ -125,5 +133,21 @@ impl<T: Stamped> Chute<T> {
         ensures stamped { IfSome result (λ x. (T.token x).book ≡ self.old.book) }
     {
         self.queue.try_pop_as::<Takes>(&mut self.pass)
+    }
+    /// Puts an item last. It comes back where there is no room. It waits for a thread that is in the way.
+    pub fn push<R: Wait>(&mut self, rt: &R, item: T) -> Result<(), T>
+        requires { (T.token item).book ≡ self.old.book }
+        ensures same { self.new ≡ self.old }
+        ensures back { IfErr result (λ x. x ≡ item) }
+    {
+        self.queue.push_as::<Puts, R>(rt, &mut self.pass, item)
+    }
+
+    /// Takes the oldest item, unless there is none. It waits for a thread that is in the way.
+    pub fn pop<R: Wait>(&mut self, rt: &R) -> Option<T>
+        ensures same { self.new ≡ self.old }
+        ensures stamped { IfSome result (λ x. (T.token x).book ≡ self.old.book) }
+    {
+        self.queue.pop_as::<Takes, R>(rt, &mut self.pass)
     }
 }

@@ -3,7 +3,7 @@ ghost use Rattle.std.specs.Prelude.{◌≡◌, ◌∷◌, ◌++◌, [], true, If
 ghost use Rattle.node_books.specs.Owing.{shown_by};
 ghost use Rattle.node_books.specs.Coming.{HandsOver};
 ghost use Rattle.node_books.specs.Moments.{moment};
-ghost use Rattle.shared_table.specs.Publishing.{Publishes};
+ghost use Rattle.shared_table.specs.Publishing.{Publishes, IsAllShown, IsWritten};
 
 use crate::publisher::{LastTable, Publisher};
 use name_table::Names;
@@ -34,8 +34,8 @@ impl<R: Wait + Drop> KeptPublisher<R> {
         KeptPublisher { publisher, rt }
     }
 
-    /// Shows a node's readers all that its loop owes them, and says whether it did: where memory is refused, they see what they saw, and
-    /// the loop, or what waits, owes it still. It waits as `Publisher::publish` does.
+    /// Writes down how a node's loop stands, shows its readers all that the loop owes them, and says whether it did both: where memory is
+    /// refused, they see what they saw, and the loop, or what waits, owes it still. It waits as `Publisher::publish` does.
     pub fn show<N: Names<Memory = Global>, L: Record>(
         self,
         node: &mut NodeLoop<N, L>,
@@ -43,6 +43,8 @@ impl<R: Wait + Drop> KeptPublisher<R> {
         requires { Publishes node.old self.publisher }
         ensures publishes { Publishes node.new result.0.publisher }
         ensures shown { result.1 ≡ true → result.0.publisher.shown ≡ shown_by node.new }
+        ensures all { result.1 ≡ true → IsAllShown result.0.publisher }
+        ensures written { result.1 ≡ true → IsWritten node.new result.0.publisher }
         ensures node { HandsOver node.old node.new }
         ensures book { result.0.publisher.known.book ≡ self.publisher.known.book }
     {

@@ -1,10 +1,11 @@
 //! Who publishes a node's table.
 ghost use Rattle.std.specs.Prelude.{◌≡◌, ◌<◌, ◌^◌, [], ◌∷◌, ◌++◌, true, false, drop, IfOk, OnOk, OnErr, length as list_length};
+ghost use Rattle.logbook.specs.Pages.{Book};
 ghost use Rattle.node_books.specs.Editions.{opening};
 ghost use Rattle.node_books.specs.Owing.{shown_by};
 ghost use Rattle.node_books.specs.Coming.{IsLoopOf, HandsOver};
 ghost use Rattle.node_books.specs.Moments.{moment, shown_at};
-ghost use Rattle.shared_table.specs.Publishing.{Progress, IsAllShown, IsSound, held_back, Publishes as Follows};
+ghost use Rattle.shared_table.specs.Publishing.{Progress, IsAllShown, IsWritten, IsSound, held_back, Publishes as Follows};
 ghost use Rattle.shared_table.specs.Rule.{mark_at};
 
 use crate::chute::Chute;
@@ -161,14 +162,45 @@ impl Publisher {
         self.scribe.token()
     }
 
-    /// Notes what a node's loop owes its readers, and writes down how the loop stands then. Where memory is refused, it owes it still, or what
-    /// it owed waits for a place.
+    /// How many moments were written.
+    pub fn count(&self) -> u64
+        ensures { result ≡ list_length self.now.known.log }
+    {
+        self.count
+    }
+
+    /// Writes down how a node's loop stands that owes its readers nothing.
+    fn write<N: Names<Memory = Global>, L: Record>(
+        &mut self,
+        node: &NodeLoop<N, L>,
+    ) -> Result<(), AllocError>
+        requires follows { Follows node.now self.old }
+        requires nothing { shown_at self.old.known.log ≡ shown_by node.now }
+        ensures ok { OnOk result (shown_at self.new.known.log ≡ shown_by node.now) }
+        ensures written { OnOk result (IsWritten node.now self.new) }
+        ensures follows { Follows node.now self.new }
+        ensures book { self.new.known.book ≡ self.old.known.book }
+        ensures shown { self.new.shown ≡ self.old.shown }
+    {
+        if self.count == u64::MAX {
+            return Err(AllocError);
+        }
+        if self.scribe.add(node).is_err() {
+            return Err(AllocError);
+        }
+        self.count += 1;
+        Ok(())
+    }
+
+    /// Notes what a node's loop owes its readers, if it owes them anything, and writes down how the loop stands then, with the replies that
+    /// it holds. Where memory is refused, it owes it still, or what it owed waits for a place.
     pub fn note<N: Names<Memory = Global>, L: Record>(
         &mut self,
         node: &mut NodeLoop<N, L>,
     ) -> Result<(), AllocError>
         requires { Follows node.old self.old }
         ensures ok { OnOk result (shown_at self.new.known.log ≡ shown_by node.new) }
+        ensures written { OnOk result (IsWritten node.new self.new) }
         ensures follows { Follows node.new self.new }
         ensures node { HandsOver node.old node.new }
         ensures book { self.new.known.book ≡ self.old.known.book }
@@ -180,7 +212,7 @@ impl Publisher {
             return Err(AllocError);
         }
         let Some(update) = node.next_update(self.alloc)? else {
-            return Ok(());
+            return self.write(node);
         };
         if self.scribe.add(node).is_err() {
             node.owe_whole();

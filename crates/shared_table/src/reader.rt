@@ -3,7 +3,7 @@ ghost use Rattle.std.specs.Prelude.{◌≡◌, ◌<◌, ◌≤◌, max, IfOk, If
 ghost use Rattle.left_right.specs.Sides.{view};
 ghost use Rattle.node_books.specs.Moments.{shown_at};
 ghost use Rattle.shared_table.specs.Rule.{Token as AnyToken};
-ghost use Rattle.shared_table.specs.Readers.{Finds, IsFound, Reads, unseen};
+ghost use Rattle.shared_table.specs.Readers.{Finds, Hears, IsFound, Reads, unseen};
 
 use crate::idle::{Idle, IdleReaders, RuledReader};
 use crate::rule::Enters;
@@ -27,11 +27,8 @@ pub enum Lookup {
     Gone,
 }
 
-/// How often a reader is tried to be lent while another thread is in the way.
+/// How often a reader is tried to be lent, or to be given back, while another thread is in the way.
 const TRIES: usize = 64;
-
-/// How often it is tried to be given back. A reader that doesn't go back is lost for good, and whoever is in the way is so for an instant.
-const RETURNS: usize = 1 << 16;
 
 /// One reader of a node's table. Contracts see the node and its book, the moments that were read, and the length of the node's log that the
 /// reader was told of or has read. Where it is dropped, its place goes back to the readers that wait.
@@ -80,7 +77,7 @@ fn give_back(home: IdleReaders, idle: Idle)
 {
     let mut home = home;
     let mut waiting = idle;
-    for _ in 0..RETURNS {
+    for _ in 0..TRIES {
         match home.put(waiting) {
             Ok(()) => return,
             Err(idle) => waiting = idle,
@@ -185,8 +182,29 @@ impl TableReader {
         self.told = self.told.max(length);
     }
 
-    /// It has read in the last of these moments, which shows no less than what it was told of. That may be an earlier one than the last that it
-    /// knows, which then shows the same.
+    /// It is told of these moments, which are so many, and how long a log the last of them shows: a look-up answers from no shorter one then.
+    /// That may be an earlier moment than the last that it knows. Where it shows no shorter a log than was told before, it shows the same.
+    pub fn hear(&mut self, seen: Token, count: u64, length: u64)
+        requires book { seen.book ≡ self.old.seen.known.book }
+        requires count { count ≡ list_length seen.log }
+        requires some { 0 < count }
+        requires long { length ≡ (shown_at seen.log).length }
+        ensures node { self.new.node ≡ self.old.node }
+        ensures hears { Hears self.old.node seen.log self.old.seen self.new.seen }
+        ensures reads { self.old.seen.told ≤ length → Reads self.old.node self.old.seen self.new.seen }
+        ensures shows { self.old.seen.told ≤ length → shown_at self.new.seen.known.log ≡ shown_at seen.log }
+    {
+        let mut both = self.home.token();
+        both.learn(&self.seen);
+        both.learn(&seen);
+        self.told = self.told.max(length);
+        if self.count < count {
+            self.seen = seen;
+            self.count = count;
+        }
+    }
+
+    /// It has read in the last of these moments, which shows no less than what it was told of.
     fn know(&mut self, seen: Token, count: u64, length: u64)
         requires book { seen.book ≡ self.old.seen.known.book }
         requires count { count ≡ list_length seen.log }
@@ -197,15 +215,7 @@ impl TableReader {
         ensures reads { Reads self.old.node self.old.seen self.new.seen }
         ensures shows { shown_at self.new.seen.known.log ≡ shown_at seen.log }
     {
-        // All of them begin one book, so the longer goes on from the shorter.
-        let mut both = self.home.token();
-        both.learn(&self.seen);
-        both.learn(&seen);
-        self.told = length;
-        if self.count < count {
-            self.seen = seen;
-            self.count = count;
-        }
+        self.hear(seen, count, length);
     }
 
     /// Looks a name up in the table of its node as it was after a number of its steps: no fewer than the reader was told of, and than it has
@@ -231,7 +241,6 @@ impl TableReader {
         else {
             return Lookup::Gone;
         };
-        // No bytes are read here: what was read, and what is known from the start, begin one book.
         let mut both = self.home.token();
         both.learn(&seen);
         if length < self.told {

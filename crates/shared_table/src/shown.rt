@@ -2,7 +2,7 @@
 ghost use Rattle.std.specs.Prelude.{◌≡◌, [], IfOk, MatchResult};
 ghost use Rattle.registry_model.specs.Table.{put_all};
 ghost use Rattle.node_books.specs.Editions.{opening};
-ghost use Rattle.shared_table.specs.Editions.{front_of, stamped};
+ghost use Rattle.shared_table.specs.Editions.{edition_of, front_of, stamped};
 
 use left_right::Absorb;
 use name_table::{Change, IndexTable, Names, Pair};

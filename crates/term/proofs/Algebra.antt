@@ -7,7 +7,8 @@ use Rattle.std.proofs.Math.Bool.{or-false, or-true, and-true}
 use Rattle.std.proofs.lemmas.Bool.{cases_order, cases_eq, eq-eqb, ne_eqb, lt-ltb, le-ltb}
 use Rattle.registry_model.specs.Process.{Nodes, with_node}
 use Rattle.term.specs.declared.faults.TextFault.{TextFault}
-use Rattle.term.specs.NodeSets.{HasNoRoom, set_of, most_nodes, with_node as and_node, without_node}
+use Rattle.term.specs.NodeSets.{HasNoRoom, set_of, with_node as and_node, without_node}
+use Rattle.term.specs.declared.limits.TheConstants.{MOST_NODES}
 use Rattle.term.proofs.Subsets.{set_of-filter, set_of-take}
 
 -- the nodes of a list that are among the others, where the first i were looked at
@@ -131,7 +132,7 @@ parted c (x ∷ xs) none = elim (cases_order x c) [
 ]
 
 -- a full set has no room for one more
-no_room : (xs : List ℕ) (c : ℕ) (fault : TextFault) → HasNoRoom xs c fault → length (and_node xs c) ≤ most_nodes → ⊥
+no_room : (xs : List ℕ) (c : ℕ) (fault : TextFault) → HasNoRoom xs c fault → length (and_node xs c) ≤ MOST_NODES → ⊥
 no_room xs c fault h fits =
     let size = length-append (filter (λ m. nat_lt m c) xs) (c ∷ filter (λ m. nat_lt c m) xs) in
     let all = parted c xs h.other in
@@ -139,7 +140,7 @@ no_room xs c fault h fits =
     omega (arith, size, all, full, fits)
 
 -- where there is room the set has the node and all others
-pub with_one_more : (r : Result Bool TextFault) (xs after : List ℕ) (c : ℕ) → length (and_node xs c) ≤ most_nodes
+pub with_one_more : (r : Result Bool TextFault) (xs after : List ℕ) (c : ℕ) → length (and_node xs c) ≤ MOST_NODES
     → MatchResult r (λ is_new. (after ≡ and_node xs c) × (is_new ≡ not (set_of xs c))) (HasNoRoom xs c)
     → OnOk r ((d : ℕ) → set_of after d ≡ (set_of xs d || (c == d))) → set_of after ≡ with_node c (set_of xs)
 with_one_more (Err fault) xs after c fits h holds = absurd (no_room xs c fault h fits)

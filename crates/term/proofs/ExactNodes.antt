@@ -13,7 +13,8 @@ use Rattle.term.specs.declared.faults.TextFault.{TextFault}
 use Rattle.term.specs.declared.faults.TextFault.TheVariants.{Empty, TooLong, BadByte, BadCreation, BadSerial, BadRule, TooManyNodes}
 use Rattle.term.specs.Laws.{IsDecided}
 use Rattle.term.specs.NodeLists.{ListsNodes, SpellsNodes, RefusesPart, RefusesNodes, ListsTooMany, parts_of, comma, list_of}
-use Rattle.term.specs.NodeSets.{set_of, with_node, most_nodes}
+use Rattle.term.specs.NodeSets.{set_of, with_node}
+use Rattle.term.specs.declared.limits.TheConstants.{MOST_NODES}
 use Rattle.term.specs.Nodes.{IsFirst}
 use Rattle.term.specs.Spelling.{IsText, SpellsNodeName, RefusesText, name_bytes}
 use Rattle.term.proofs.ExactTexts as texts
@@ -23,14 +24,14 @@ use Rattle.term.proofs.NodeTexts.{IsName, list_of-spells}
 use Rattle.term.proofs.OneNode.{exact_node_names, name-first, name_bytes-spells}
 
 -- what the first of rising nodes is below, and what it is not above
-above_first : (x : ℕ) (xs : List ℕ) (c : ℕ) → IsStrictlyIncreasing (x ∷ xs) → set_of xs c ≡ true → x < c
+pub above_first : (x : ℕ) (xs : List ℕ) (c : ℕ) → IsStrictlyIncreasing (x ∷ xs) → set_of xs c ≡ true → x < c
 above_first x xs c up held =
     let found = Any-from_list_any (λ m. m == c) xs held in
     let at : get_or xs found.0 0 ≡ c = get_or_default xs found.0 0 found.1 found.2
     ∙ (found.3 ∙ eqb-true found.1 c found.4) in
     omega (arith, rises (x ∷ xs) 0 (suc found.0) up (omega arith) (omega (arith, found.2)), at)
 
-first_least : (x : ℕ) (xs : List ℕ) (c : ℕ) → IsStrictlyIncreasing (x ∷ xs) → set_of (x ∷ xs) c ≡ true → x ≤ c
+pub first_least : (x : ℕ) (xs : List ℕ) (c : ℕ) → IsStrictlyIncreasing (x ∷ xs) → set_of (x ∷ xs) c ≡ true → x ≤ c
 first_least x xs c up held = tested (x == c) refl
   where
     tested : (t : Bool) → (x == c) ≡ t → x ≤ c
@@ -38,7 +39,7 @@ first_least x xs c up held = tested (x == c) refl
     tested false e = omega (arith, above_first x xs c up (rw e at held))
 
 -- the first is in the set
-holds_first : (x : ℕ) (xs : List ℕ) → set_of (x ∷ xs) x ≡ true
+pub holds_first : (x : ℕ) (xs : List ℕ) → set_of (x ∷ xs) x ≡ true
 holds_first x xs = rw (eq-eqb x x refl) refl
 
 -- a test that is not true is false
@@ -229,7 +230,7 @@ always_either bytes =
     listed names spelled sorted =
         let lists : ListsNodes bytes sorted.0 =
         record { names = names; spelled = spelled; rising = sorted.1; named = sorted.2 } in
-        elim (cases_lt most_nodes (length sorted.0)) [
+        elim (cases_lt MOST_NODES (length sorted.0)) [
           | inl over ↦ inr (TooManyNodes, record { nodes = sorted.0; listed = lists; over = over })
           | inr fits ↦ inl (sorted.0, record { listed = lists; fits = fits })
         ]

@@ -4,7 +4,8 @@ use Rattle.std.proofs.lemmas.Bool.{cases_lt}
 use Rattle.std.proofs.lemmas.List.{get_or-take, length-take-le}
 use Rattle.std.proofs.lemmas.List.Sums.{fails_before_first, passes_at_first}
 use Rattle.std.specs.List.{AllPass, position_or_len}
-use Rattle.registry_model.specs.Process.{longest, text_of}
+use Rattle.registry_model.specs.Process.{text_of}
+use Rattle.term.specs.declared.limits.TheConstants.{LONGEST_TEXT}
 use Rattle.term.specs.declared.faults.TextFault.{TextFault}
 use Rattle.term.specs.declared.faults.TextFault.TheVariants.{Empty, TooLong, BadByte, BadCreation, BadSerial, BadRule, TooManyNodes}
 use Rattle.term.specs.Laws.{IsExact, KeepsByteOrder}
@@ -118,7 +119,7 @@ pub always_either : (bytes : List ℕ) → ((v : ℕ) × SpellsText bytes v) ⊎
 always_either bytes =
     elim (cases_lt 0 (length bytes)) [
       | inr none ↦ inr (Empty, omega (arith, none))
-      | inl some ↦ elim (cases_lt longest (length bytes)) [
+      | inl some ↦ elim (cases_lt LONGEST_TEXT (length bytes)) [
         | inl over ↦ inr (TooLong, over)
         | inr fits ↦ elim (first_bad-search bytes) [
           | inl allowed ↦ inl (

@@ -8,7 +8,8 @@ use Rattle.std.specs.declared.cmp.Ordering.TheVariants.{Less, Equal, Greater}
 use Rattle.std.specs.Ordering.{nat_cmp, ordering_then}
 use Rattle.registry_model.specs.Process.{place_in, text_of}
 use Rattle.term.specs.Spelling.{IsText}
-use Rattle.term.specs.Keys.{key_of, key_length}
+use Rattle.term.specs.Keys.{key_of}
+use Rattle.term.specs.declared.text.TheConstants.{KEY_BYTES}
 use Rattle.term.proofs.Places.{AllDigits, place_in-suc, place_in-below, slice_cmp-place_in}
 use Rattle.term.proofs.Texts.{AllDigits-text, text_of-injective}
 
@@ -35,12 +36,12 @@ place_in-next (suc k) (b ∷ bs) =
     rw (place_in-suc (suc k) b (take (suc k) bs), place_in-suc k b (take k bs), place_in-next k bs, unit, front) (omega arith)
 
 -- before its last digit a key has room for one
-pub place_in-room : (k b : ℕ) (bs : List ℕ) → IsText bs → k < key_length → b < 256 → place_in k (take k bs) * 256 + b < 256 ^ key_length
+pub place_in-room : (k b : ℕ) (bs : List ℕ) → IsText bs → k < KEY_BYTES → b < 256 → place_in k (take k bs) * 256 + b < 256 ^ KEY_BYTES
 place_in-room k b bs t inside fits =
     let below : place_in k (take k bs) < 256 ^ k =
     place_in-below k (take k bs) (length-take k bs) (AllDigits-take k bs (AllDigits-text bs t)) in
     let unit : 256 ^ suc k ≡ 256 * 256 ^ k = pow-succ' 256 k in
-    let more : 256 ^ suc k ≤ 256 ^ key_length = pow-le-pow_right {n = 256} (omega arith) {i = suc k} {j = key_length} (omega arith) in
+    let more : 256 ^ suc k ≤ 256 ^ KEY_BYTES = pow-le-pow_right {n = 256} (omega arith) {i = suc k} {j = KEY_BYTES} (omega arith) in
     omega (arith, below, unit, more)
 
 -- where beginnings differ they decide
@@ -64,10 +65,10 @@ beginnings_decide (suc k) (x ∷ xs) (y ∷ ys) = first (nat_cmp x y) (beginning
 pub keys_decide : (xs ys : List ℕ) → IsText xs → IsText ys
     → ordering_then (nat_cmp (key_of xs) (key_of ys)) (slice_cmp nat_cmp xs ys) ≡ slice_cmp nat_cmp xs ys
 keys_decide xs ys t u =
-    let keys : slice_cmp nat_cmp (take key_length xs) (take key_length ys) ≡ nat_cmp (key_of xs) (key_of ys) =
-    slice_cmp-place_in key_length (take key_length xs) (take key_length ys) (length-take key_length xs) (length-take key_length ys)
-    (AllDigits-take key_length xs (AllDigits-text xs t)) (AllDigits-take key_length ys (AllDigits-text ys u)) in
-    rw (← keys) (beginnings_decide key_length xs ys)
+    let keys : slice_cmp nat_cmp (take KEY_BYTES xs) (take KEY_BYTES ys) ≡ nat_cmp (key_of xs) (key_of ys) =
+    slice_cmp-place_in KEY_BYTES (take KEY_BYTES xs) (take KEY_BYTES ys) (length-take KEY_BYTES xs) (length-take KEY_BYTES ys)
+    (AllDigits-take KEY_BYTES xs (AllDigits-text xs t)) (AllDigits-take KEY_BYTES ys (AllDigits-text ys u)) in
+    rw (← keys) (beginnings_decide KEY_BYTES xs ys)
 
 -- where two keys differ, their order is the texts'
 pub decided : (xs ys : List ℕ) → IsText xs → IsText ys → (k l : ℕ) → k ≡ key_of xs → l ≡ key_of ys

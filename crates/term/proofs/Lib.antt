@@ -19,3 +19,5 @@ pub mod Serials
 pub mod Texts
 pub mod Subsets
 pub mod Succeeded
+pub mod Mapping
+pub mod NodeSetTexts

@@ -15,7 +15,8 @@ use Rattle.std.specs.Result.{is_err}
 use Rattle.term.specs.declared.faults.TextFault.{TextFault}
 use Rattle.term.specs.declared.faults.TextFault.TheVariants.{Empty, TooLong, BadByte, BadCreation, BadSerial, BadRule, TooManyNodes}
 use Rattle.term.specs.NodeLists.{ListsNodes, SpellsNodes, RefusesPart, RefusesNodes, ListsTooMany, parts_of}
-use Rattle.term.specs.NodeSets.{IsNodeSet, HasNoRoom, set_of, with_node, most_nodes}
+use Rattle.term.specs.NodeSets.{IsNodeSet, HasNoRoom, set_of, with_node}
+use Rattle.term.specs.declared.limits.TheConstants.{MOST_NODES}
 use Rattle.term.specs.Spelling.{IsText, SpellsNodeName, RefusesText}
 use Rattle.term.proofs.NodeSets.{StandsAt, FitsAt, rises, never_falls, with_node-there, with_node-fits, set_of-there, set_of-with_node, rising-insert}
 
@@ -82,7 +83,7 @@ long-with_node xs c up =
       | inr fits ↦ omega (arith, ap length (with_node-fits xs fits.0 c fits.1), length-insert xs fits.0 c fits.1.inside)
     ]
 
-longer-with_node : (xs : List ℕ) (c : ℕ) → IsStrictlyIncreasing xs → set_of xs c ≡ false
+pub longer-with_node : (xs : List ℕ) (c : ℕ) → IsStrictlyIncreasing xs → set_of xs c ≡ false
     → length xs < length (with_node xs c)
 longer-with_node xs c up none =
     elim (placed xs c up) [
@@ -90,19 +91,19 @@ longer-with_node xs c up none =
       | inr fits ↦ omega (arith, ap length (with_node-fits xs fits.0 c fits.1), length-insert xs fits.0 c fits.1.inside)
     ]
 
--- what has been read: the parts in front, each a name, and the nodes that they name, all of them while a set holds them
-pub record HasRead {S A : Type 0} (steps : S → Option A → S → Type 0) (v : A → List ℕ) (bytes : List ℕ) (s : S)
-    (nodes : List ℕ) (is_over : Bool) : Type 0 where
+-- what has been read: the parts in front, each of which spells a node, and the nodes that they spell, all of them while a set holds them
+pub record HasRead {S A : Type 0} (Spells : List ℕ → ℕ → Type 0) (steps : S → Option A → S → Type 0) (v : A → List ℕ) (bytes : List ℕ)
+    (s : S) (nodes : List ℕ) (is_over : Bool) : Type 0 where
   pub done : List (List ℕ)
   pub left : List (List ℕ)
   pub parts : parts_of bytes ≡ done ++ left
   pub yields : YieldsList steps v s left
   pub names : List ℕ
-  pub spelled : AllZip SpellsNodeName done names
+  pub spelled : AllZip Spells done names
   pub all : List ℕ
   pub rising : IsStrictlyIncreasing all
   pub named : (c : ℕ) → set_of all c ≡ set_of names c
-  pub kept : MatchBool is_over (most_nodes < length all) (nodes ≡ all)
+  pub kept : MatchBool is_over (MOST_NODES < length all) (nodes ≡ all)
   pub set : IsNodeSet nodes
 
 -- a set with no node
@@ -111,10 +112,10 @@ empty_set nodes e =
     subst IsNodeSet (sym e) (record { rising = λ k h. absurd (omega arith); fits = omega arith })
 
 -- at first nothing is read
-pub read_none : {S A : Type 0} (steps : S → Option A → S → Type 0) (v : A → List ℕ) (bytes : List ℕ) (s : S)
-    (nodes : List ℕ)
-    → YieldsList steps v s (parts_of bytes) → nodes ≡ [] → HasRead steps v bytes s nodes false
-read_none steps v bytes s nodes yields none = record {
+pub read_none : {S A : Type 0} (Spells : List ℕ → ℕ → Type 0) (steps : S → Option A → S → Type 0) (v : A → List ℕ) (bytes : List ℕ)
+    (s : S) (nodes : List ℕ)
+    → YieldsList steps v s (parts_of bytes) → nodes ≡ [] → HasRead Spells steps v bytes s nodes false
+read_none Spells steps v bytes s nodes yields none = record {
   done = [];
   left = parts_of bytes;
   parts = refl;
@@ -129,7 +130,7 @@ read_none steps v bytes s nodes yields none = record {
 }
 
 -- the part that comes is the first of those left, and where none comes none is left
-next_part : {S A : Type 0} (steps : S → Option A → S → Type 0) (v : A → List ℕ) (s t : S) (x : A) (left : List (List ℕ))
+pub next_part : {S A : Type 0} (steps : S → Option A → S → Type 0) (v : A → List ℕ) (s t : S) (x : A) (left : List (List ℕ))
     → YieldsList steps v s left → steps s (Some x) t
     → (rest : List (List ℕ)) × (left ≡ v x ∷ rest) × YieldsList steps v t rest
 next_part steps v s t x [] y step = absurd (y.runs x t step)
@@ -143,23 +144,31 @@ no_part steps v s t (z ∷ zs) y step = absurd (y.runs.0 t step)
 
 -- a set keeps up with the nodes named, until one has no room
 kept_up : (all nodes after : List ℕ) (c : ℕ) (is_over : Bool) (r : Result Bool TextFault) → IsStrictlyIncreasing all
-    → MatchBool is_over (most_nodes < length all) (nodes ≡ all)
+    → MatchBool is_over (MOST_NODES < length all) (nodes ≡ all)
     → MatchResult r (λ is_new. (after ≡ with_node nodes c) × (is_new ≡ not (set_of nodes c))) (HasNoRoom nodes c)
-    → MatchBool (is_over || is_err r) (most_nodes < length (with_node all c)) (after ≡ with_node all c)
+    → MatchBool (is_over || is_err r) (MOST_NODES < length (with_node all c)) (after ≡ with_node all c)
 kept_up all nodes after c true r up over step = omega (arith, over, long-with_node all c up)
 kept_up all nodes after c false (Ok is_new) up same step = step.0 ∙ ap (λ (xs : List ℕ). with_node xs c) same
 kept_up all nodes after c false (Err f) up same step =
     let longer = longer-with_node all c up (subst (λ (xs : List ℕ). set_of xs c ≡ false) same step.other) in
     omega (arith, longer, step.full, ap length same)
 
+-- a list of nodes and the set of them hold the same with one more
+pub set_of-more : (all names : List ℕ) (c : ℕ) → ((d : ℕ) → set_of all d ≡ set_of names d)
+    → (d : ℕ) → set_of (with_node all c) d ≡ set_of (names ++ c ∷ []) d
+set_of-more all names c named d = set_of-with_node all c d
+    ∙ (ap (λ (b : Bool). b || (c == d)) (named d)
+    ∙ (ap (λ (b : Bool). set_of names d || b) (sym (or-false (c == d)))
+    ∙ sym (list_any-append (λ m. m == d) names (c ∷ []))))
+
 -- one more part is read
-pub read_more : {S A : Type 0} (steps : S → Option A → S → Type 0) (v : A → List ℕ) (bytes : List ℕ) (s t : S) (x : A)
-    (c : ℕ)
-    (nodes after : List ℕ) (is_over : Bool) (r : Result Bool TextFault) → HasRead steps v bytes s nodes is_over
-    → steps s (Some x) t → SpellsNodeName (v x) c
+pub read_more : {S A : Type 0} (Spells : List ℕ → ℕ → Type 0) (steps : S → Option A → S → Type 0) (v : A → List ℕ) (bytes : List ℕ)
+    (s t : S) (x : A) (c : ℕ)
+    (nodes after : List ℕ) (is_over : Bool) (r : Result Bool TextFault) → HasRead Spells steps v bytes s nodes is_over
+    → steps s (Some x) t → Spells (v x) c
     → MatchResult r (λ is_new. (after ≡ with_node nodes c) × (is_new ≡ not (set_of nodes c))) (HasNoRoom nodes c)
-    → IsNodeSet after → HasRead steps v bytes t after (is_over || is_err r)
-read_more steps v bytes s t x c nodes after is_over r read step spelled inserted set =
+    → IsNodeSet after → HasRead Spells steps v bytes t after (is_over || is_err r)
+read_more Spells steps v bytes s t x c nodes after is_over r read step spelled inserted set =
     let next = next_part steps v s t x read.left read.yields step in record {
       done = read.done ++ v x ∷ [];
       left = next.0;
@@ -167,35 +176,37 @@ read_more steps v bytes s t x c nodes after is_over r read step spelled inserted
           ∙ sym (append_assoc read.done (v x ∷ []) next.0));
       yields = next.2;
       names = read.names ++ c ∷ [];
-      spelled = all_zipped_more SpellsNodeName read.done read.names (v x) c read.spelled spelled;
+      spelled = all_zipped_more Spells read.done read.names (v x) c read.spelled spelled;
       all = with_node read.all c;
       rising = rising-with_node read.all c read.rising;
-      named = λ d. set_of-with_node read.all c d
-          ∙ (ap (λ (b : Bool). b || (c == d)) (read.named d)
-          ∙ (ap (λ (b : Bool). set_of read.names d || b) (sym (or-false (c == d)))
-          ∙ sym (list_any-append (λ m. m == d) read.names (c ∷ []))));
+      named = set_of-more read.all read.names c read.named;
       kept = kept_up read.all nodes after c is_over r read.rising read.kept inserted;
       set = set;
     }
 
--- at the end all is read
+-- at the end each part is read
+pub all_spelled : {S A : Type 0} (Spells : List ℕ → ℕ → Type 0) (steps : S → Option A → S → Type 0) (v : A → List ℕ) (bytes : List ℕ)
+    (s t : S) (nodes : List ℕ) (is_over : Bool) → (read : HasRead Spells steps v bytes s nodes is_over) → steps s None t
+    → AllZip Spells (parts_of bytes) read.names
+all_spelled Spells steps v bytes s t nodes is_over read step =
+    let none = no_part steps v s t read.left read.yields step in
+    let whole : read.done ≡ parts_of bytes =
+    sym (read.parts ∙ (ap (λ (ps : List (List ℕ)). read.done ++ ps) none ∙ append-nil read.done)) in
+    subst (λ (ps : List (List ℕ)). AllZip Spells ps read.names) whole read.spelled
+
 all_read : {S A : Type 0} (steps : S → Option A → S → Type 0) (v : A → List ℕ) (bytes : List ℕ) (s t : S)
-    (nodes : List ℕ)
-    (is_over : Bool) → (read : HasRead steps v bytes s nodes is_over) → steps s None t → ListsNodes bytes read.all
+    (nodes : List ℕ) (is_over : Bool) → (read : HasRead SpellsNodeName steps v bytes s nodes is_over) → steps s None t
+    → ListsNodes bytes read.all
 all_read steps v bytes s t nodes is_over read step = record {
   names = read.names;
-  spelled =
-      let none = no_part steps v s t read.left read.yields step in
-      let whole : read.done ≡ parts_of bytes =
-      sym (read.parts ∙ (ap (λ (ps : List (List ℕ)). read.done ++ ps) none ∙ append-nil read.done)) in
-      subst (λ (ps : List (List ℕ)). AllZip SpellsNodeName ps read.names) whole read.spelled;
+  spelled = all_spelled SpellsNodeName steps v bytes s t nodes is_over read step;
   rising = read.rising;
   named = read.named;
 }
 
 pub read_set : {S A : Type 0} (steps : S → Option A → S → Type 0) (v : A → List ℕ) (bytes : List ℕ) (s t : S)
     (nodes : List ℕ)
-    (is_over : Bool) → is_over ≡ false → HasRead steps v bytes s nodes is_over → steps s None t
+    (is_over : Bool) → is_over ≡ false → HasRead SpellsNodeName steps v bytes s nodes is_over → steps s None t
     → SpellsNodes bytes nodes
 read_set steps v bytes s t nodes true e read step = cc
 read_set steps v bytes s t nodes false e read step = record {
@@ -205,7 +216,7 @@ read_set steps v bytes s t nodes false e read step = record {
 
 pub read_too_many : {S A : Type 0} (steps : S → Option A → S → Type 0) (v : A → List ℕ) (bytes : List ℕ) (s t : S)
     (nodes : List ℕ)
-    (is_over : Bool) → is_over ≡ true → HasRead steps v bytes s nodes is_over → steps s None t → ListsTooMany bytes
+    (is_over : Bool) → is_over ≡ true → HasRead SpellsNodeName steps v bytes s nodes is_over → steps s None t → ListsTooMany bytes
 read_too_many steps v bytes s t nodes false e read step = cc
 read_too_many steps v bytes s t nodes true e read step = record {
   nodes = read.all;
@@ -232,7 +243,7 @@ refused-nodes bytes TooManyNodes r = absurd r.refused
 
 -- the part that comes is no name, and those before it are
 pub read_fault : {S A : Type 0} (steps : S → Option A → S → Type 0) (v : A → List ℕ) (bytes : List ℕ) (s t : S) (x : A)
-    (nodes : List ℕ) (is_over : Bool) (f : TextFault) → HasRead steps v bytes s nodes is_over → steps s (Some x) t
+    (nodes : List ℕ) (is_over : Bool) (f : TextFault) → HasRead SpellsNodeName steps v bytes s nodes is_over → steps s (Some x) t
     → RefusesText (v x) f → RefusesNodes bytes f
 read_fault steps v bytes s t x nodes is_over f read step refused =
     let next = next_part steps v s t x read.left read.yields step in

@@ -12,7 +12,8 @@ use Rattle.std.proofs.lemmas.List.Sorted.{searched}
 use Rattle.std.specs.List.{insert, remove, list_any, position, position_or_len}
 use Rattle.std.specs.List.Sorted.{IsStrictlyIncreasing, IsBinarySearchResult}
 use Rattle.std.specs.Ordering.{nat_cmp}
-use Rattle.term.specs.NodeSets.{IsNodeSet, set_of, with_node, without_node, most_nodes}
+use Rattle.term.specs.NodeSets.{IsNodeSet, set_of, with_node, without_node}
+use Rattle.term.specs.declared.limits.TheConstants.{MOST_NODES}
 
 -- each node is below those behind it
 pub rises : (xs : List ℕ) (i j : ℕ) → IsStrictlyIncreasing xs → i < j → j < length xs → get_or xs i 0 < get_or xs j 0
@@ -189,7 +190,7 @@ rising-insert xs i c up fits k inside = at (cases_lt k i) (cases_lt (suc k) i)
             (rises xs (k - 1) k up (omega arith) (omega (arith, long, inside)))))
 
 -- where there is room, it is a set
-pub insert-set : (xs : List ℕ) (i c : ℕ) → IsNodeSet xs → FitsAt xs i c → length xs < most_nodes
+pub insert-set : (xs : List ℕ) (i c : ℕ) → IsNodeSet xs → FitsAt xs i c → length xs < MOST_NODES
     → IsNodeSet (insert xs i c)
 insert-set xs i c s fits room = record {
   rising = rising-insert xs i c s.rising fits;

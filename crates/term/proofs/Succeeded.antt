@@ -25,7 +25,7 @@ keeps_order a b x y next l ne = by (cases_eq x a) (cases_eq y a)
     by (inr other) (inr another) = rw (ne_eqb x a other, ne_eqb y a another) l
 
 -- a node above all is put behind them
-with_node-behind : (xs : List ℕ) (c : ℕ) → ((k : ℕ) → k < length xs → get_or xs k 0 < c) → with_node xs c ≡ xs ++ c ∷ []
+pub with_node-behind : (xs : List ℕ) (c : ℕ) → ((k : ℕ) → k < length xs → get_or xs k 0 < c) → with_node xs c ≡ xs ++ c ∷ []
 with_node-behind xs c below =
     sym (with_node-fits xs (length xs) c (record {
       inside = omega arith;

@@ -6,7 +6,8 @@ use Rattle.std.specs.Cmp.{unsigned_tied}
 use Rattle.std.specs.Cmp.Lexicographic.{slice_cmp, pointwise, texts_ties, bytes_decides}
 use Rattle.std.specs.List.{list_all}
 use Rattle.std.specs.Ordering.{nat_cmp, is_eq}
-use Rattle.registry_model.specs.Process.{text_of, longest}
+use Rattle.registry_model.specs.Process.{text_of}
+use Rattle.term.specs.declared.limits.TheConstants.{LONGEST_TEXT}
 use Rattle.term.specs.Spelling.{IsText, SpellsText, bytes_of, is_allowed}
 use Rattle.term.proofs.Places.{AllDigits, slice_cmp-place_in, digits_in-place_in}
 
@@ -42,7 +43,7 @@ AllDigits-text bs t = AllDigits-allowed bs (list_all-from_AllPass is_allowed bs 
 pub nat_cmp-text_of : (xs ys : List ℕ) → IsText xs → IsText ys → nat_cmp (text_of xs) (text_of ys)
     ≡ slice_cmp nat_cmp xs ys
 nat_cmp-text_of xs ys t u =
-    sym (slice_cmp-place_in longest xs ys t.fits u.fits (AllDigits-text xs t) (AllDigits-text ys u))
+    sym (slice_cmp-place_in LONGEST_TEXT xs ys t.fits u.fits (AllDigits-text xs t) (AllDigits-text ys u))
 
 -- two numbers are equal where the bytes are
 pub text_of-eq : (xs ys : List ℕ) → IsText xs → IsText ys → (text_of xs == text_of ys) ≡ pointwise nat_eq xs ys
@@ -57,7 +58,7 @@ text_of-injective xs ys t u e =
 -- the bytes of the number of a text are its bytes
 pub bytes_of-text_of : (bs : List ℕ) → IsText bs → bytes_of (text_of bs) ≡ bs
 unfolding bytes_of
-bytes_of-text_of bs t = digits_in-place_in longest bs t.fits (AllDigits-text bs t)
+bytes_of-text_of bs t = digits_in-place_in LONGEST_TEXT bs t.fits (AllDigits-text bs t)
 
 -- a name is spelled by its bytes alone
 pub bytes_of-spells : (bs : List ℕ) (v : ℕ) → SpellsText bs v → bytes_of v ≡ bs

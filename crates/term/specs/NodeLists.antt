@@ -4,8 +4,9 @@ use Rattle.std.specs.List.{slice_split, All, AllZip, join_by}
 use Rattle.std.specs.List.Sorted.{IsStrictlyIncreasing}
 use Rattle.term.specs.declared.faults.TextFault.{TextFault}
 use Rattle.term.specs.declared.faults.TextFault.TheVariants.{Empty, TooLong, BadByte, BadCreation, BadSerial, BadRule, TooManyNodes}
-use Rattle.term.specs.NodeSets.{set_of, most_nodes}
-use Rattle.term.specs.Spelling.{IsText, SpellsNodeName, RefusesText, name_bytes, node_bytes}
+use Rattle.term.specs.NodeSets.{set_of}
+use Rattle.term.specs.declared.limits.TheConstants.{MOST_NODES}
+use Rattle.term.specs.Spelling.{IsText, SpellsNode, SpellsNodeName, RefusesText, name_bytes, node_bytes}
 
 -- a comma, which parts the names of a list
 abbrev pub comma : ℕ
@@ -25,13 +26,13 @@ pub record ListsNodes (bytes nodes : List ℕ) : Type 0 where
 -- the bytes spell a set: they list its nodes, and these are not too many
 pub record SpellsNodes (bytes nodes : List ℕ) : Type 0 where
   pub listed : ListsNodes bytes nodes
-  pub fits : length nodes ≤ most_nodes
+  pub fits : length nodes ≤ MOST_NODES
 
 -- the bytes list more nodes than a set holds
 pub record ListsTooMany (bytes : List ℕ) : Type 0 where
   pub nodes : List ℕ
   pub listed : ListsNodes bytes nodes
-  pub over : most_nodes < length nodes
+  pub over : MOST_NODES < length nodes
 
 -- the first part that is no name is refused for the fault
 pub record RefusesPart (bytes : List ℕ) (fault : TextFault) : Type 0 where
@@ -57,3 +58,11 @@ list_of names = join_by name_bytes (comma ∷ []) names
 -- the bytes that list these nodes
 abbrev pub list_of_nodes : List ℕ → List ℕ
 list_of_nodes nodes = join_by node_bytes (comma ∷ []) nodes
+
+-- the bytes spell a set of nodes, of whatever creations: each part spells a node, and the set has these, each once, rising, and not too many
+pub record SpellsNodeSet (bytes nodes : List ℕ) : Type 0 where
+  pub named : List ℕ
+  pub spelled : AllZip SpellsNode (parts_of bytes) named
+  pub rising : IsStrictlyIncreasing nodes
+  pub has : (c : ℕ) → set_of nodes c ≡ set_of named c
+  pub fits : length nodes ≤ MOST_NODES

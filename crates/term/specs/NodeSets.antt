@@ -6,15 +6,12 @@ use Rattle.registry_model.specs.Process.{Nodes}
 use Rattle.term.specs.declared.faults.TextFault.{TextFault}
 use Rattle.term.specs.declared.faults.TextFault.TheVariants.{TooManyNodes}
 use Rattle.term.specs.Nodes.{IsFirst, name_of}
-
--- how many nodes a set holds at most
-abbrev pub most_nodes : ℕ
-most_nodes = 8
+use Rattle.term.specs.declared.limits.TheConstants.{MOST_NODES}
 
 -- the nodes are listed as a set is: rising, and not too many
 pub record IsNodeSet (nodes : List ℕ) : Type 0 where
   pub rising : IsStrictlyIncreasing nodes
-  pub fits : length nodes ≤ most_nodes
+  pub fits : length nodes ≤ MOST_NODES
 
 -- the names are listed as a set of names is: as nodes are, and each is the first of its name
 pub record IsNameSet (names : List ℕ) : Type 0 where
@@ -48,5 +45,5 @@ without_node nodes c = filter (λ m. not (m == c)) nodes
 -- the set has no room for the node: it is full, and the node is none of it
 pub record HasNoRoom (nodes : List ℕ) (c : ℕ) (fault : TextFault) : Type 0 where
   pub is : fault ≡ TooManyNodes
-  pub full : length nodes ≡ most_nodes
+  pub full : length nodes ≡ MOST_NODES
   pub other : set_of nodes c ≡ false

@@ -3,7 +3,8 @@ use Rattle.std.specs.Prelude.{◌≡◌, ℕ, zero, suc, Bool, false, if◌then�
 use Rattle.std.specs.Char.{is_ascii_alphanumeric}
 use Rattle.std.specs.Fmt.{decimal}
 use Rattle.std.specs.List.{AllPass, before_first}
-use Rattle.registry_model.specs.Process.{Process, longest, text_of}
+use Rattle.registry_model.specs.Process.{Process, text_of}
+use Rattle.term.specs.declared.limits.TheConstants.{LONGEST_TEXT}
 use Rattle.term.specs.declared.faults.TextFault.{TextFault}
 use Rattle.term.specs.declared.faults.TextFault.TheVariants.{Empty, TooLong, BadByte, BadCreation, BadSerial, BadRule, TooManyNodes}
 use Rattle.term.specs.Nodes.{first_node, text_in, name_of, creation_of}
@@ -12,10 +13,10 @@ use Rattle.term.specs.Nodes.{first_node, text_in, name_of, creation_of}
 abbrev pub is_allowed : ℕ → Bool
 is_allowed b = is_ascii_alphanumeric b || (b == 95) || (b == 45) || (b == 64)
 
--- the bytes are a text: 1 to 64 of them, each allowed
+-- the bytes are a text: one at least, and not too many, each allowed
 pub record IsText (bytes : List ℕ) : Type 0 where
   pub some : 0 < length bytes
-  pub fits : length bytes ≤ longest
+  pub fits : length bytes ≤ LONGEST_TEXT
   pub allowed : AllPass is_allowed bytes
 
 -- the bytes spell a name: they are a text, and the value is its number
@@ -30,7 +31,7 @@ digits_in (suc k) n = if n == 0 then [] else n / 256 ^ k ∷ digits_in k (n % 25
 
 -- the bytes that spell a name
 unfoldable pub bytes_of : ℕ → List ℕ
-bytes_of n = digits_in longest n
+bytes_of n = digits_in LONGEST_TEXT n
 
 -- the first byte that is not allowed stands at this place
 pub record IsFirstBad (bytes : List ℕ) (place : ℕ) : Type 0 where
@@ -41,8 +42,8 @@ pub record IsFirstBad (bytes : List ℕ) (place : ℕ) : Type 0 where
 -- the fault for which the bytes are refused as a name
 abbrev pub RefusesText : List ℕ → TextFault → Type 0
 RefusesText bytes Empty = length bytes ≡ 0
-RefusesText bytes TooLong = longest < length bytes
-RefusesText bytes (BadByte place) = (length bytes ≤ longest) × IsFirstBad bytes place
+RefusesText bytes TooLong = LONGEST_TEXT < length bytes
+RefusesText bytes (BadByte place) = (length bytes ≤ LONGEST_TEXT) × IsFirstBad bytes place
 RefusesText bytes BadCreation = ⊥
 RefusesText bytes BadSerial = ⊥
 RefusesText bytes BadRule = ⊥

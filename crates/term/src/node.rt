@@ -74,6 +74,20 @@ impl Node {
         })
     }
 
+    /// The node of the creation before, unless this one is the first.
+    pub fn before(&self) -> Option<Node>
+        ensures { MatchOption result (creation_of self.now ≡ 1)
+            (λ older. (creation_of older < last_creation) × (self.now ≡ older + 1) × (name_of older ≡ name_of self.now)) }
+    {
+        if self.creation == 1 {
+            return None;
+        }
+        Some(Node {
+            name: self.name.copy(),
+            creation: self.creation - 1,
+        })
+    }
+
     /// The same node. It takes no memory.
     pub fn copy(&self) -> Self
         ensures { result ≡ self.now }

@@ -6,9 +6,10 @@ ghost use Rattle.term.specs.NodeSets.{IsNodeSet, set_of};
 ghost use Rattle.term.specs.NodeLists.{SpellsNodes, RefusesNodes, list_of};
 
 use crate::faults::TextFault;
+use crate::limits::MOST_NODES;
 use crate::node::Node;
 use crate::node_name::{Blank, NodeName, parse_node_name};
-use crate::node_set::{MOST_NODES, NodeSet};
+use crate::node_set::NodeSet;
 use arrayvec::ArrayVec;
 use std::alloc::{AllocError, Allocator};
 use std::marker::Model;

@@ -1,21 +1,19 @@
 //! Sets of nodes.
-ghost use Rattle.std.specs.Prelude.{◌≡◌, ℕ, ◌-◌, ◌<◌, ◌==◌, ◌||◌, not, [], ◌∷◌, length, Some, OnOk, OnErr, MatchResult, slice_get};
+ghost use Rattle.std.specs.Prelude.{◌≡◌, ℕ, List, ◌-◌, ◌<◌, ◌==◌, ◌||◌, not, [], ◌∷◌, length, Some, OnOk, OnErr, MatchOption, MatchResult, slice_get};
 ghost use Rattle.std.specs.List.{list_any, position as place_of};
 ghost use Rattle.std.specs.Option.{option_copied};
 ghost use Rattle.term.specs.Nodes.{name_of};
 ghost use Rattle.term.specs.NodeSets.{IsNodeSet, HasNoRoom, set_of, with_node, without_node, with_older};
-ghost use Rattle.term.specs.NodeLists.{list_of_nodes};
+ghost use Rattle.term.specs.NodeLists.{list_of_nodes, SpellsNodeSet};
 
 use crate::faults::TextFault;
-use crate::node::Node;
+use crate::limits::MOST_NODES;
+use crate::node::{Node, parse_node};
 use crate::node_name::{Blank, NodeName};
 use crate::node_names::NodeNames;
 use arrayvec::ArrayVec;
 use std::fmt;
 use std::marker::Model;
-
-/// How many nodes a set holds at most.
-pub const MOST_NODES: usize = 8;
 
 /// A set of up to eight nodes, held in place. No call on it takes memory.
 #[derive(Debug, PartialEq, Eq, Drop)]
@@ -186,4 +184,16 @@ impl fmt::Display for NodeSet {
         }
         Ok(())
     }
+}
+
+/// Reads a set of nodes, of whatever creations: they are parted by commas, in any order; one that stands there again counts once.
+pub fn parse_node_set(text: &str) -> Option<NodeSet>
+    ensures { MatchOption result ((nodes : List ℕ) → SpellsNodeSet text.now nodes → ⊥) (SpellsNodeSet text.now) }
+{
+    let mut nodes = NodeSet::empty();
+    for part in text.split(',') {
+        let node = parse_node(part).ok()?;
+        nodes.insert(node).ok()?;
+    }
+    Some(nodes)
 }

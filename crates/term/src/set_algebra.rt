@@ -3,7 +3,8 @@ ghost use Rattle.std.specs.Prelude.{◌≡◌, ℕ, ◌+◌, ◌≤◌, ◌==◌
 ghost use Rattle.std.specs.Option.{option_copied, option_to_list};
 ghost use Rattle.registry_model.specs.Process.{with_node};
 ghost use Rattle.term.specs.Nodes.{name_of};
-ghost use Rattle.term.specs.NodeSets.{set_of, most_nodes, with_node as and_node, with_older, succeeded};
+ghost use Rattle.term.specs.NodeSets.{set_of, with_node as and_node, with_older, succeeded};
+ghost use Rattle.term.specs.declared.limits.TheConstants.{MOST_NODES};
 
 use crate::node::Node;
 use crate::node_name::NodeName;
@@ -129,7 +130,7 @@ impl NodeSet {
 
     /// Its nodes and one more, for which there is room.
     pub fn with(&self, node: &Node) -> NodeSet
-        requires { length (and_node self.now node.now) ≤ most_nodes }
+        requires { length (and_node self.now node.now) ≤ MOST_NODES }
         ensures { set_of result ≡ with_node node.now (set_of self.now) }
     {
         let mut all = self.copy();

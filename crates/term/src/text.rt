@@ -10,6 +10,7 @@ ghost use Rattle.term.specs.Spelling.{is_allowed as is_allowed_byte, IsFirstBad,
 ghost use Rattle.term.specs.Keys.{key_of as any_key};
 
 use crate::faults::TextFault;
+use crate::limits::LONGEST_TEXT;
 use arrayvec::ArrayString;
 use std::alloc::AllocError;
 use std::cmp::Ordering;
@@ -25,7 +26,7 @@ const KEY_BYTES: usize = 8;
 pub(crate) struct ShortText {
     /// The first bytes as one number: most texts that differ differ in it, and it is compared before they are.
     key: u64,
-    bytes: ArrayString<64>,
+    bytes: ArrayString<LONGEST_TEXT>,
 }
 
 impl Model for ShortText {
@@ -66,7 +67,7 @@ fn byte_at(bytes: &[u8], place: usize) -> u64
 
 /// The key of a text of at least as many bytes as a key has.
 fn front_key(bytes: &[u8]) -> u64
-    requires { 8 ≤ length bytes.now }
+    requires { KEY_BYTES ≤ length bytes.now }
     ensures { result ≡ any_key bytes.now }
 {
     u64::from_be_bytes([

@@ -3,6 +3,7 @@ use Rattle.std.proofs.Common.{ℕ, Bool, true, false, List, [], ◌∷◌, ◌++
 use Rattle.std.specs.Prelude.{if◌then◌else◌}
 use Rattle.std.proofs.lemmas.List.{take_all, length-take-le}
 use Rattle.std.proofs.lemmas.Grind.{common_steps}
+use Rattle.term.specs.declared.limits.TheConstants.{LONGEST_LINE}
 use Rattle.text_lines.specs.Lines.{line_of}
 
 -- the first bytes of two lists
@@ -17,12 +18,12 @@ take-append (x ∷ xs) (suc n) ys =
     ap (λ (l : List ℕ). x ∷ l) (take-append xs n ys ∙ ap (λ (k : ℕ). take n xs ++ take k ys) e)
 
 -- more bytes are kept as long as they fit
-pub take-extend : (before bytes : List ℕ) (n : ℕ) → n ≡ min (length bytes) (1025 - length before)
-    → take 1025 before ++ take n bytes ≡ take 1025 (before ++ bytes)
-take-extend before bytes n e = ap (λ (xs : List ℕ). take 1025 before ++ xs) (fitting n e)
-    ∙ sym (take-append before 1025 bytes)
+pub take-extend : (before bytes : List ℕ) (n : ℕ) → n ≡ min (length bytes) (LONGEST_LINE + 1 - length before)
+    → take (LONGEST_LINE + 1) before ++ take n bytes ≡ take (LONGEST_LINE + 1) (before ++ bytes)
+take-extend before bytes n e = ap (λ (xs : List ℕ). take (LONGEST_LINE + 1) before ++ xs) (fitting n e)
+    ∙ sym (take-append before (LONGEST_LINE + 1) bytes)
   where
-    fitting : (n : ℕ) → n ≡ min (length bytes) (1025 - length before) → take n bytes ≡ take (1025 - length before) bytes
+    fitting : (n : ℕ) → n ≡ min (length bytes) (LONGEST_LINE + 1 - length before) → take n bytes ≡ take (LONGEST_LINE + 1 - length before) bytes
     fitting n e = grind (arith, common_steps)
 
 -- of more bytes the last is the last
@@ -59,9 +60,9 @@ length-line_of true bytes = stripped (slice_index bytes (length bytes - 1) == 13
     stripped false = (omega arith, omega arith)
 
 -- a short line is the first of what was kept
-pub take-kept : (e : Bool) (bytes : List ℕ) (n : ℕ) → n ≡ length (line_of e bytes) → n ≤ 1024 → take n (take 1025 bytes)
+pub take-kept : (e : Bool) (bytes : List ℕ) (n : ℕ) → n ≡ length (line_of e bytes) → n ≤ LONGEST_LINE → take n (take (LONGEST_LINE + 1) bytes)
     ≡ line_of e bytes
 take-kept e bytes n h l =
     let b = length-line_of e bytes in
-    ap (λ (xs : List ℕ). take n xs) (take_all 1025 bytes (omega (arith, b.1))) ∙ ap (λ (k : ℕ). take k bytes) h
+    ap (λ (xs : List ℕ). take n xs) (take_all (LONGEST_LINE + 1) bytes (omega (arith, b.1))) ∙ ap (λ (k : ℕ). take k bytes) h
     ∙ sym (line_of-take e bytes)

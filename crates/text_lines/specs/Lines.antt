@@ -1,5 +1,5 @@
 -- Lines that are read, without their ends: how long they may be, and how many there may be.
-use Rattle.std.specs.Prelude.{ℕ, Bool, true, false, ◌+◌, ◌-◌, ◌/◌, ◌≡◌, ◌≤◌, ◌<◌, ◌==◌, ◌&&◌, ◌⊎◌, not, nat_lt, ⊤, List, [], ◌∷◌, ◌++◌, length, take, filter, slice_index, if◌then◌else◌, Option, Some, None}
+use Rattle.std.specs.Prelude.{ℕ, Bool, true, false, ◌+◌, ◌-◌, ◌*◌, ◌/◌, ◌≡◌, ◌≤◌, ◌<◌, ◌==◌, ◌&&◌, ◌⊎◌, not, nat_lt, ⊤, List, [], ◌∷◌, ◌++◌, length, take, filter, slice_index, if◌then◌else◌, Option, Some, None}
 use Rattle.std.specs.List.{list_all, All}
 use Rattle.std.specs.Io.KnownBytes.{Consumes, IsAtEnd, Keeps}
 use Rattle.std.specs.Str.Lines.{lines, strip_carriage_return}
@@ -8,18 +8,11 @@ use Rattle.text_lines.specs.declared.faults.StreamFault.TheVariants.{Read, Write
 use Rattle.text_lines.specs.declared.lines.Line.{Line}
 use Rattle.text_lines.specs.declared.lines.Line.TheVariants.{Text, TooLong}
 use Rattle.text_lines.specs.declared.lines.Part.{Part}
+use Rattle.term.specs.declared.limits.TheConstants.{LONGEST_LINE, MOST_LINES}
 
--- the longest line that is read
-abbrev pub longest_line : ℕ
-longest_line = 1024
-
--- the most lines of one reader
-abbrev pub most_lines : ℕ
-most_lines = 1000000
-
--- how many lines so many bytes count for: one, and one more for each full 1,024 bytes past the first 1,024
+-- how many lines so many bytes count for: one, and one more for each time that a longest line is full past the first
 abbrev pub count_for : ℕ → ℕ
-count_for n = 1 + (n - longest_line) / longest_line
+count_for n = 1 + (n - LONGEST_LINE) / LONGEST_LINE
 
 -- how many lines a line counts for
 abbrev pub count_of : List ℕ → ℕ
@@ -32,7 +25,7 @@ count_of_all (l ∷ ls) = count_of l + count_of_all ls
 
 -- a line of spaces alone, not too many of them, is empty
 abbrev pub is_blank : List ℕ → Bool
-is_blank line = not (nat_lt longest_line (length line)) && list_all (λ b. b == 32) line
+is_blank line = not (nat_lt LONGEST_LINE (length line)) && list_all (λ b. b == 32) line
 
 -- the lines that aren't empty
 abbrev pub spoken : List (List ℕ) → List (List ℕ)
@@ -40,8 +33,8 @@ spoken ls = filter (λ line. not (is_blank line)) ls
 
 -- what is kept of a line: its bytes, unless it is too long
 abbrev pub IsKept : List ℕ → Line → Type 0
-IsKept line (Text v) = (v.items ≡ line) × (length line ≤ longest_line)
-IsKept line TooLong = longest_line < length line
+IsKept line (Text v) = (v.items ≡ line) × (length line ≤ LONGEST_LINE)
+IsKept line TooLong = LONGEST_LINE < length line
 
 -- what stands in its memory
 abbrev pub room_of : Line → List ℕ
@@ -50,13 +43,13 @@ room_of TooLong = []
 
 -- what is kept of a line of which these bytes were read, and no end: as many as show how long it is
 pub record IsPart (bytes : List ℕ) (part : Part) : Type 0 where
-  pub text : part.text.items ≡ take 1025 bytes
+  pub text : part.text.items ≡ take (LONGEST_LINE + 1) bytes
   pub len : part.len ≡ length bytes
   pub ends_in_return : part.ends_in_return ≡ (slice_index bytes (length bytes - 1) == 13)
 
--- the most bytes of a line that counts for no more than the most lines
+-- the most bytes of a line that counts for no more than the most lines: a longest line beside those, and a carriage return
 abbrev pub longest_part : ℕ
-longest_part = 1024001025
+longest_part = (MOST_LINES + 1) * LONGEST_LINE + 1
 
 -- these bytes were read, too
 abbrev pub GrowsByBytes : List ℕ → Part → Part → Type 0

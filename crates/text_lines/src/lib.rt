@@ -7,6 +7,6 @@ mod words;
 mod writing;
 
 pub use faults::{StreamFault, WriteFault};
-pub use lines::{Line, MOST_LINES, is_blank, read_line};
-pub use words::{MOST_WORDS, first_words, words_of};
+pub use lines::{Line, is_blank, read_line};
+pub use words::{first_words, words_of};
 pub use writing::{hand_on, tell, write_text};

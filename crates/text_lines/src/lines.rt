@@ -4,19 +4,15 @@ ghost use Rattle.std.specs.List.{list_all};
 ghost use Rattle.std.specs.Io.KnownBytes.{Keeps, Consumes, IsAtEnd};
 ghost use Rattle.std.specs.Io.Buffered.{reader_remaining};
 ghost use Rattle.text_lines.specs.declared.faults.StreamFault.TheVariants as fault;
-ghost use Rattle.text_lines.specs.Lines.{IsPart, IsKept, line_of, count_for, count_of, is_blank as blank, most_lines, HasNoFeed, TakesByte, TakesPart, TakesLine, StopsAtByte, StopsAtLine, LosesLines, HasNoLine, longest_part, GrowsByBytes, TakesAtHand, room_of};
+ghost use Rattle.text_lines.specs.Lines.{IsPart, IsKept, line_of, count_for, count_of, is_blank as blank, HasNoFeed, TakesByte, TakesPart, TakesLine, StopsAtByte, StopsAtLine, LosesLines, HasNoLine, longest_part, GrowsByBytes, TakesAtHand, room_of};
+ghost use Rattle.term.specs.declared.limits.TheConstants.{MOST_LINES};
 
 use crate::faults::StreamFault;
 use crate::writing::hand_on;
 use memchr::memchr;
 use std::alloc::{AllocError, Global};
 use std::io::{BufRead, BufReader, ErrorKind, Read, Write};
-
-/// The longest line that is read.
-const LONGEST_LINE: usize = 1024;
-
-/// The most lines of one reader.
-pub const MOST_LINES: u32 = 1_000_000;
+use term::LONGEST_LINE;
 
 /// A line without its end.
 #[derive(Drop)]
@@ -146,7 +142,7 @@ impl Part {
 
     /// Whether what was read of a line counts for more lines than the most.
     fn exceeds(&self, most: u32) -> bool
-        requires { most ≤ most_lines }
+        requires { most ≤ MOST_LINES }
         ensures past { result ≡ true → (bytes : List ℕ) → IsPart bytes self.now
             → (0 < length bytes) × (most < count_of (line_of true bytes)) }
         ensures short { result ≡ false → (bytes : List ℕ) → IsPart bytes self.now → length bytes ≤ longest_part }
@@ -196,7 +192,7 @@ fn read_part<R: Read, W: Write>(
     most: u32,
 ) -> Result<bool, StreamFault>
     requires start { IsPart [] part.old }
-    requires most { most ≤ most_lines }
+    requires most { most ≤ MOST_LINES }
     ensures read { MatchResult result (λ is_ended. (bytes : List ℕ) × IsPart bytes part.new × HasNoFeed bytes
         × TakesPart (reader_remaining R.remaining reader.old) (reader_remaining R.remaining reader.new) is_ended bytes)
         (StopsAtLine (reader_remaining R.remaining reader.old) (reader_remaining R.remaining reader.new) most) }
@@ -225,7 +221,7 @@ pub fn read_line<R: Read, W: Write>(
     writer: &mut W,
     left: &mut u32,
 ) -> Result<Option<Line>, StreamFault>
-    requires { left.old ≤ most_lines }
+    requires { left.old ≤ MOST_LINES }
     ensures read { MatchResult result
         (TakesLine (reader_remaining R.remaining reader.old) (reader_remaining R.remaining reader.new)
         left.old left.new)

@@ -5,9 +5,7 @@ ghost use Rattle.text_lines.specs.Words.{words, is_space};
 
 use arrayvec::ArrayVec;
 use std::alloc::{AllocError, Global};
-
-/// How many words `first_words` gives at most.
-pub const MOST_WORDS: usize = 7;
+use term::MOST_WORDS;
 
 /// The words of a line, which are parted by spaces.
 pub fn words_of<'a>(alloc: Global, line: &'a str) -> Result<Vec<&'a str>, AllocError>
@@ -36,9 +34,9 @@ fn cut<'a>(text: &'a str) -> (&'a str, &'a str)
     }
 }
 
-/// The first seven words of a line, or all of them where it has no more. They take no memory.
+/// The first words of a line, as many as are looked at, or all of them where it has no more. They take no memory.
 pub fn first_words<'a>(line: &'a str) -> ArrayVec<&'a str, MOST_WORDS>
-    ensures { map (λ word. word.now) result.items ≡ take 7 (words line.now) }
+    ensures { map (λ word. word.now) result.items ≡ take MOST_WORDS (words line.now) }
 {
     let mut first = ArrayVec::new();
     let mut rest = line;

@@ -1,5 +1,5 @@
 -- What waits in a tray.
-use Rattle.std.specs.Prelude.{ℕ, Bool, ◌==◌, Option, Some, None, is_some, List, [], ◌∷◌, ◌++◌, slice_set, slice_index_or}
+use Rattle.std.specs.Prelude.{ℕ, Bool, ◌==◌, Option, Some, None, is_some, map, List, [], ◌∷◌, ◌++◌, slice_set, slice_index_or, if◌then◌else◌}
 use Rattle.std.specs.List.{position}
 
 -- the letters for one receiver, the oldest first
@@ -31,3 +31,10 @@ longer_at (Some k) letter slots = slice_set slots k (longer letter (slice_index_
 -- a letter more to this node, behind the others
 abbrev pub with_letter : {L : Type 0} → ℕ → L → List (Waiting L) → List (Waiting L)
 with_letter to letter slots = longer_at (place to slots) letter slots
+
+-- the list for one receiver is for another now, and none waits in it
+abbrev pub renewed_where : {L : Type 0} → ℕ → ℕ → Waiting L → Waiting L
+renewed_where older next w = if w.receiver == older then none_for next else w
+
+abbrev pub renewed : {L : Type 0} → ℕ → ℕ → List (Waiting L) → List (Waiting L)
+renewed older next slots = map (renewed_where older next) slots

@@ -3,6 +3,7 @@ ghost use Rattle.std.specs.Prelude.{◌≡◌, [], ◌∷◌, ◌++◌, OnOk, On
 ghost use Rattle.protocol_model.specs.Links.{is_nil};
 ghost use Rattle.link.specs.declared.faults.LinkFault.TheVariants.{Memory};
 ghost use Rattle.tray.specs.Draining.{Drained};
+ghost use Rattle.tray.specs.Held.{renewed_where};
 
 use link::{LinkFault, Post, Unsent};
 use std::alloc::Global;
@@ -67,6 +68,15 @@ impl<L> Slot<L> {
 }
 
 impl<L: Drop> Slot<L> {
+    /// Where the letters are for the first of these nodes, they are dropped, and those for the second wait here from now on.
+    pub(crate) fn renew(&mut self, alloc: Global, older: &Node, next: &Node)
+        ensures { self.new ≡ renewed_where older.now next.now self.old }
+    {
+        if self.receiver == *older {
+            *self = Slot::new(alloc, next.copy());
+        }
+    }
+
     /// Sends the letters, the oldest first, until one is handed back. Where none waits, as mostly, it costs next to nothing.
     pub(crate) fn drain<E: Post<L>>(&mut self, post: &mut E)
         ensures receiver { self.new.receiver ≡ self.old.receiver }

@@ -2,7 +2,7 @@
 ghost use Rattle.std.specs.Prelude.{◌≡◌, [], map, IfOk, OnOk, OnErr, IfErr};
 ghost use Rattle.std.specs.List.{list_all};
 ghost use Rattle.protocol_model.specs.Links.{is_nil};
-ghost use Rattle.tray.specs.Held.{none_for, place, has, with_letter};
+ghost use Rattle.tray.specs.Held.{none_for, place, has, with_letter, renewed};
 ghost use Rattle.tray.specs.Faults.{IsUnsent};
 ghost use Rattle.tray.specs.Draining.{DrainedAll};
 
@@ -62,6 +62,16 @@ impl<L: Drop> Tray<L> {
             });
         };
         self.slots[place].push(letter)
+    }
+
+    /// The second of these nodes is a receiver in the place of the first from now on. What waited for that is dropped.
+    pub fn renew(&mut self, older: &Node, next: &Node)
+        ensures { self.new ≡ renewed older.now next.now self.old }
+    {
+        let alloc: Global = *self.slots.allocator();
+        for slot in self.slots.iter_mut() {
+            slot.renew(alloc, older, next);
+        }
     }
 
     /// Whether no letter waits.

@@ -67,21 +67,26 @@ inside_by o s to l = go (to == s.node)
         ap (λ (b : Bool). in_world o s.node && (b && list_all (λ x. in_world o x.0) s.heard))
         (led (in_world o) (place to s.wires) (length (parts_of l.letter)) s.wires)
 
+-- so a letter is dealt behind the others to its node
+pub sent_dealt : (s : Wiring) (to : ℕ) (l : Stamped) (t : Wiring) → t ≡ posted to l s → dealt_of t ≡ with_sent to (Letter l) (dealt_of s)
+sent_dealt s to l t is =
+    ap dealt_of is
+    ∙ (ap (λ (ps : List (ℕ × Stamped)). record { sent = λ x. map Letter (of_node x (posted to l s).sent); taken = λ f. map Letter (of_node f ps) })
+    (taken_by s to l)
+    ∙ (ap (λ (ps : List (ℕ × Stamped)). record { sent = λ x. map Letter (of_node x ps); taken = λ f. map Letter (of_node f s.taken) })
+    (sent_by s to l)
+    ∙ ap (λ (f : ℕ → List Item). record { sent = f; taken = λ x. map Letter (of_node x s.taken) }) (fun_ext (items_more to l s.sent))))
+
 sends : (o : Opening) (s : Wiring) (to : ℕ) (i : Item) (t : Wiring) → leads_inside o s ≡ true → Posts s to i t
     → (leads_inside o t ≡ true) × (dealt_of t ≡ with_sent to i (dealt_of s))
 sends o s to (Letter l) t here h = (
   ap (leads_inside o) h.1 ∙ (inside_by o s to l ∙ here),
-  ap dealt_of h.1
-      ∙ (ap (λ (ps : List (ℕ × Stamped)). record { sent = λ x. map Letter (of_node x (posted to l s).sent); taken = λ f. map Letter (of_node f ps) })
-      (taken_by s to l)
-      ∙ (ap (λ (ps : List (ℕ × Stamped)). record { sent = λ x. map Letter (of_node x ps); taken = λ f. map Letter (of_node f s.taken) })
-      (sent_by s to l)
-      ∙ ap (λ (f : ℕ → List Item). record { sent = f; taken = λ x. map Letter (of_node x s.taken) }) (fun_ext (items_more to l s.sent)))),
+  sent_dealt s to l t h.1,
 )
 sends o s to (Task k) t here h = absurd h
 
 -- a letter that is taken is behind the others from its node, which is of the world
-takes_more : (s : Wiring) (from : ℕ) (l : Stamped)
+pub takes_more : (s : Wiring) (from : ℕ) (l : Stamped)
     → dealt_of (record s { taken = s.taken ++ (from, l) ∷ [] }) ≡ with_taken from (Letter l) (dealt_of s)
 takes_more s from l =
     ap (λ (f : ℕ → List Item). record { sent = λ x. map Letter (of_node x s.sent); taken = f }) (fun_ext (items_more from l s.taken))

@@ -1,6 +1,6 @@
 -- An end's letters to its own node stay with it.
 use Rattle.std.proofs.Common.{ℕ, Bool, true, false, zero, suc, ◌≡◌, ◌==◌, ◌<◌, inl, inr, Option, Some, None, Ok, List, [], ◌∷◌, ◌++◌, map, length, get_or, set, refl, sym, ap, subst, ◌∙◌, cond, append_assoc, arith}
-use Rattle.std.specs.Prelude.{if◌then◌else◌, not, filter}
+use Rattle.std.specs.Prelude.{if◌then◌else◌, is_some, not, filter, ◌&&◌, ◌||◌}
 use Rattle.std.specs.List.{list_all}
 use Rattle.std.proofs.lemmas.Bool.{and_from, and_parts, not-true, eq-eqb}
 use Rattle.letter_lines.specs.declared.Letter.{Letter as ALetter}
@@ -15,13 +15,15 @@ use Rattle.wire_end.specs.Dealings.{of_node}
 use Rattle.wire_end.specs.Hearing.{HearsAt, LosesAt, laid_if, read_at, lost_where, closed, gone}
 use Rattle.wire_end.specs.Links.{HearsPart}
 use Rattle.wire_end.specs.Order.{KeepsOwn, KeepTheirOwn}
+use Rattle.term.specs.Nodes.{name_of}
+use Rattle.wire_end.specs.Starting.{Starts}
 use Rattle.wire_end.specs.Wirings.{place, wire_at, new_wire, kept, printed, Posts, Takes}
 use Rattle.wire_end.proofs.Dealing.{led_at, led}
 use Rattle.wire_end.proofs.Ordering.{more-same, more-other, first-same, first-other}
-use Rattle.wire_end.proofs.Places.{at-place}
+use Rattle.wire_end.proofs.Places.{at-place, alone_stays}
 
 -- none of the links that an end begins with leads to its node
-apart-new : (node : ℕ) (world : List ℕ) → list_all (λ w. not (w.node == node)) (map new_wire (filter (λ n. not (n == node)) world)) ≡ true
+pub apart-new : (node : ℕ) (world : List ℕ) → list_all (λ w. not (w.node == node)) (map new_wire (filter (λ n. not (n == node)) world)) ≡ true
 apart-new node [] = refl
 apart-new node (n ∷ world) = go (n == node) refl (apart-new node world)
   where
@@ -151,6 +153,22 @@ loses out s n t h step = go (place n s.wires) refl step
     go None e st = absurd (cc (st.0))
     go (Some k) e st = subst KeepsOwn (sym st) (lost s n k e h (wire_at k s.wires).is_down)
 
+-- another node starts
+starts : (out : List ℕ) (s : Wiring) (older next : ℕ) (t : Wiring) → KeepsOwn s → Starts older next s t → KeepsOwn t
+starts out s older next t h st =
+    let others = and_parts (is_some (place older s.wires))
+    (list_all (λ w. not (name_of w.node == name_of older) || (w.node == older)) s.wires && not (name_of s.node == name_of older)) st.alone in
+    let apart = and_parts (list_all (λ w. not (name_of w.node == name_of older) || (w.node == older)) s.wires)
+    (not (name_of s.node == name_of older)) others.1 in
+    subst KeepsOwn (sym st.begins) (record {
+      sent = h.sent;
+      heard = h.heard;
+      wires = alone_stays older next st.next_is s.node
+          (λ (same : name_of s.node ≡ name_of older).
+          cc (not-true (name_of s.node == name_of older) apart.1, eq-eqb (name_of s.node) (name_of older) same))
+          s.wires h.wires;
+    })
+
 pub keep_their_own : KeepTheirOwn
 keep_their_own = record {
   begins = λ node world. record { sent = refl; heard = refl; wires = apart-new node world };
@@ -158,6 +176,7 @@ keep_their_own = record {
   gives = gives;
   hears = hears;
   loses = loses;
+  starts = starts;
   asks = λ out s task h. record { sent = h.sent; heard = h.heard; wires = h.wires };
   prints = λ out s h. record { sent = h.sent; heard = h.heard; wires = h.wires };
   tells = λ out s h. record { sent = h.sent; heard = h.heard; wires = h.wires };

@@ -3,15 +3,17 @@ use Rattle.std.specs.Prelude.{ℕ, Bool, true, false, ◌≡◌, ◌⊎◌, Opti
 use Rattle.letter_lines.specs.declared.Letter.{Letter}
 use Rattle.letter_lines.specs.declared.Letter.TheVariants.{Down}
 use Rattle.letter_lines.specs.declared.faults.LetterFault.TheVariants.{Memory}
+use Rattle.letter_lines.specs.declared.part.Part.{Part as APart}
 use Rattle.letter_lines.specs.Gathered.{nothing}
 use Rattle.node_loop.specs.declared.item.Stamped.{Stamped}
 use Rattle.wire_end.specs.declared.faults.HearFault.{HearFault}
-use Rattle.wire_end.specs.declared.faults.HearFault.TheVariants.{NoSuchNode, Part}
+use Rattle.wire_end.specs.declared.faults.HearFault.TheVariants.{NoSuchNode, Stray, Part}
 use Rattle.wire_end.specs.declared.line.LinkLine.{LinkLine}
 use Rattle.wire_end.specs.declared.wire.Wire.{Wire}
 use Rattle.wire_end.specs.declared.wire_end.Wiring.{Wiring}
 use Rattle.wire_end.specs.Links.{HearsPart}
 use Rattle.wire_end.specs.Orders.{orders_of}
+use Rattle.wire_end.specs.Saying.{present, is_said_by}
 use Rattle.wire_end.specs.Wirings.{place, wire_at}
 
 -- a letter of this node waits behind the others
@@ -27,8 +29,13 @@ laid_if from stamp (Some letter) s = laid from (record { stamp = stamp; letter =
 abbrev pub read_at : ℕ → Wire → ℕ → LinkLine → Wiring → Wiring
 read_at k wire from line s = record s { wires = slice_set s.wires k wire; read = s.read ++ (from, line) ∷ [] }
 
+-- the letter that a part ends on the link at this place, if it ends one, is one that the end's node relies on
+abbrev pub fits_at : ℕ → APart → Wiring → Bool
+fits_at k p s = is_said_by (present s) s.node p (wire_at k s.wires).parts
+
 -- the line is the next of the link at this place: it is read, and the letter waits that is whole now, if one is
 pub record IsHeard (from : ℕ) (line : LinkLine) (k : ℕ) (s t : Wiring) : Type 0 where
+  pub fits : fits_at k line.part s ≡ true
   pub letter : Option Letter
   pub wire : Wire
   pub hears : HearsPart line.number line.part (wire_at k s.wires) wire (Ok letter)
@@ -46,13 +53,14 @@ abbrev pub HearsAt : Option ℕ → ℕ → LinkLine → Wiring → Wiring → T
 HearsAt None from line s t = ⊥
 HearsAt (Some k) from line s t = IsHeard from line k s t
 
--- why a line isn't taken: there is no such link; or it isn't the next of it, or its part isn't taken. Nothing changed then; or memory was
--- refused for the letter that it ends
+-- why a line isn't taken: there is no such link; or it isn't the next of it, or its part isn't taken, or it ends a letter that no node says
+-- which the end knows of. Nothing changed then; or memory was refused for the letter that it ends
 abbrev pub RefusesAt : Option ℕ → ℕ → LinkLine → HearFault → Wiring → Wiring → Type 0
 RefusesAt None from line fault s t = (fault ≡ NoSuchNode) × (t ≡ s)
 RefusesAt (Some k) from line fault s t =
     (HearsPart line.number line.part (wire_at k s.wires) (wire_at k s.wires) (Err fault) × (t ≡ s))
     ⊎ ((fault ≡ Part Memory) × IsLost from line k s t)
+    ⊎ ((fault ≡ Stray) × (fits_at k line.part s ≡ false) × (t ≡ s))
 
 -- what comes of a line of this node
 abbrev pub Hears : ℕ → LinkLine → Result (Unit {0}) HearFault → Wiring → Wiring → Type 0

@@ -5,7 +5,7 @@ use Rattle.letter_lines.specs.declared.Letter.TheVariants.{Down}
 use Rattle.letter_lines.specs.declared.part.Part.{Part as APart}
 use Rattle.letter_lines.specs.Gathered.{Takes}
 use Rattle.wire_end.specs.declared.faults.HearFault.{HearFault}
-use Rattle.wire_end.specs.declared.faults.HearFault.TheVariants.{NoSuchNode, Gap, Part}
+use Rattle.wire_end.specs.declared.faults.HearFault.TheVariants.{NoSuchNode, Gap, Stray, Part}
 use Rattle.wire_end.specs.declared.wire.Wire.{Wire}
 
 -- a line with this number is the next of the link: there is none behind the last letter of a node
@@ -28,3 +28,4 @@ HearsPart number p w v (Ok letter) = (is_next w number ≡ true) × Takes p w.pa
 HearsPart number p w v (Err Gap) = (is_next w number ≡ false) × (v ≡ w)
 HearsPart number p w v (Err (Part f)) = (is_next w number ≡ true) × Takes p w.parts w.parts (Err f) × (v ≡ w)
 HearsPart number p w v (Err NoSuchNode) = ⊥
+HearsPart number p w v (Err Stray) = ⊥

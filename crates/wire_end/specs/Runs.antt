@@ -9,7 +9,7 @@ use Rattle.lock_answers.specs.Worlds.{of_nodes, Agrees}
 use Rattle.lock_answers.specs.ClientLocks.{ClientLocks}
 use Rattle.lock_answers.specs.Leftovers.{NothingIsLeft}
 use Rattle.node_loop.specs.Alone.{Entry}
-use Rattle.node_log.specs.Seen.{seen_entry}
+use Rattle.node_loop.specs.Seen.{seen_entry}
 use Rattle.node_loop.specs.Held.{Written}
 use Rattle.node_loop.specs.Telling.{AllTell}
 use Rattle.node_loop.specs.declared.item.Stamped.{Stamped}

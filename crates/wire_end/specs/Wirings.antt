@@ -1,5 +1,5 @@
 -- The steps of a node's end of lines.
-use Rattle.std.specs.Prelude.{ℕ, Bool, true, false, ◌≡◌, ◌⊎◌, ◌==◌, ◌||◌, ◌+◌, not, filter, Option, Some, None, is_some, List, [], ◌∷◌, ◌++◌, map, length, slice_set, slice_index_or, if◌then◌else◌}
+use Rattle.std.specs.Prelude.{ℕ, Bool, true, false, ◌≡◌, ◌⊎◌, ◌==◌, ◌+◌, not, filter, Option, Some, None, is_some, List, [], ◌∷◌, ◌++◌, map, length, slice_set, slice_index_or, if◌then◌else◌}
 use Rattle.std.specs.List.{position}
 use Rattle.link.specs.declared.faults.LinkFault.{LinkFault}
 use Rattle.link.specs.declared.faults.LinkFault.TheVariants.{NoSuchNode, Memory}
@@ -15,6 +15,7 @@ use Rattle.wire_end.specs.declared.wire.Wire.{Wire}
 use Rattle.wire_end.specs.declared.wire_end.Wiring.{Wiring}
 use Rattle.wire_end.specs.Sending.{letter_text}
 use Rattle.wire_end.specs.Orders.{orders_of}
+use Rattle.wire_end.specs.Saying.{present, is_said}
 
 -- a link on which nothing came or went
 abbrev pub new_wire : ℕ → Wire
@@ -40,9 +41,9 @@ abbrev pub with_lines_at : Option ℕ → ℕ → List Wire → List Wire
 with_lines_at None count wires = wires
 with_lines_at (Some k) count wires = slice_set wires k (record (wire_at k wires) { written = (wire_at k wires).written + count })
 
--- the node can be sent a letter: it is the end's own, or another one of the world
-abbrev pub reaches : ℕ → Wiring → Bool
-reaches to s = (to == s.node) || is_some (place to s.wires)
+-- a letter can go to this node: it is another one of the world, or the end's own, which may say that to itself
+abbrev pub reaches : ℕ → ALetter → Wiring → Bool
+reaches to l s = if to == s.node then is_said (present s) s.node s.node l else is_some (place to s.wires)
 
 -- a letter of the node to itself waits inside, behind the others
 abbrev pub kept : Stamped → Wiring → Wiring
@@ -66,17 +67,17 @@ IsReadAgain false l = IsLetter l
 
 -- a letter goes on its way; a task is the node's own, and goes on no line
 abbrev pub Posts : Wiring → ℕ → Item → Wiring → Type 0
-Posts s to (Letter l) t = (reaches to s ≡ true) × (t ≡ posted to l s) × IsReadAgain (to == s.node) l.letter
+Posts s to (Letter l) t = (reaches to l.letter s ≡ true) × (t ≡ posted to l s) × IsReadAgain (to == s.node) l.letter
 Posts s to (Task k) t = ⊥
 
--- it is handed back: there is no such node, or no memory, or no number is left for a line
+-- it is handed back: it can't go there, or there is no memory, or no number is left for a line
 abbrev pub Unsent : LinkFault → Bool → Type 0
 Unsent NoSuchNode known = known ≡ false
 Unsent Memory known = known ≡ true
 Unsent fault known = ⊥
 
 abbrev pub Refuses : Wiring → ℕ → Item → LinkFault → Type 0
-Refuses s to (Letter l) fault = Unsent fault (reaches to s)
+Refuses s to (Letter l) fault = Unsent fault (reaches to l.letter s)
 Refuses s to (Task k) fault = fault ≡ NoSuchNode
 
 -- an end of this node of a world as it begins

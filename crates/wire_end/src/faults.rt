@@ -13,6 +13,8 @@ pub enum HearFault {
     NoSuchNode,
     /// It isn't the next line of its link: one was lost, or doubled, or overtaken.
     Gap,
+    /// It ends a letter that no node says, as far as this one knows: one that names a node that hasn't started, or a welcome to another.
+    Stray,
     /// What it says is no part of the letter that the lines before it began, or memory was refused. Then the letter that it ends may be
     /// lost, so the end isn't to be used any more.
     Part(LetterFault),

@@ -29,6 +29,11 @@ fn line(number: u64, part: Part) -> LinkLine {
     }
 }
 
+/// The node of the next creation.
+fn next_of(node: &Node) -> Result<Node, AllocError> {
+    node.next().ok_or(AllocError)
+}
+
 /// Sends that a has left.
 fn send_down(end: &mut WireEnd, to: &Node) -> bool {
     let letter = Letter::Down;
@@ -79,5 +84,49 @@ fn tasks_wait(rt: HostRuntime) -> Result<(), Fail> {
     assert!(rt; matches!(end.take(), Ok(Some((_, Item::Task(_))))));
     assert!(rt; matches!(end.take(), Ok(None)));
     assert!(rt; end.take_orders().is_empty());
+    Ok(())
+}
+
+#[test]
+fn a_link_begins_anew(rt: HostRuntime) -> Result<(), Fail> {
+    let b = node_of("b")?;
+    let later = next_of(&b)?;
+    let mut end = end_of_a(rt.alloc())?;
+    assert!(rt; send_down(&mut end, &b));
+    assert!(rt; end.hear(&b, line(1, Part::Down)).is_ok());
+    assert!(rt; end.is_linked_with(&b));
+    end.started(&b, &later);
+    assert!(rt; !end.is_linked_with(&b));
+    assert!(rt;
+        matches!(
+            end.hear(&b, line(2, Part::Applied)),
+            Err(HearFault::NoSuchNode)
+        )
+    );
+    assert!(rt; end.hear(&later, line(1, Part::JoinRefused)).is_ok());
+    assert!(rt; !send_down(&mut end, &b));
+    assert!(rt; send_down(&mut end, &later));
+    assert_eq!(rt;
+        end.take_lines().as_str(),
+        "send b 1 4 down\nsend b/2 1 4 down\n"
+    );
+    Ok(())
+}
+
+#[test]
+fn letters_name_nodes_that_have_started(rt: HostRuntime) -> Result<(), Fail> {
+    let b = node_of("b")?;
+    let later = next_of(&b)?;
+    let mut end = end_of_a(rt.alloc())?;
+    assert!(rt;
+        matches!(
+            end.hear(&b, line(1, Part::Admit(later.copy()))),
+            Err(HearFault::Stray)
+        )
+    );
+    assert!(rt; end.hear(&b, line(1, Part::Member(later.copy()))).is_ok());
+    assert!(rt; matches!(end.hear(&b, line(2, Part::Welcome)), Err(HearFault::Stray)));
+    end.started(&b, &later);
+    assert!(rt; end.hear(&later, line(1, Part::Admit(later.copy()))).is_ok());
     Ok(())
 }

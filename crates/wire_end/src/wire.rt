@@ -2,6 +2,7 @@
 ghost use Rattle.std.specs.Prelude.{◌≡◌, false, true};
 ghost use Rattle.letter_lines.specs.Gathered.{nothing};
 ghost use Rattle.wire_end.specs.Links.{HearsPart, is_next};
+ghost use Rattle.wire_end.specs.Starting.{opened_anew};
 
 use crate::faults::HearFault;
 use letter_lines::{Gathering, Letter, Part};
@@ -39,6 +40,13 @@ impl Wire {
         ensures { result.now ≡ self.now.node }
     {
         &self.node
+    }
+
+    /// The items that were read of a letter that isn't whole yet.
+    pub(crate) fn parts(&self) -> &Gathering
+        ensures { result.now ≡ self.now.parts }
+    {
+        &self.parts
     }
 
     /// How many lines were written.
@@ -93,5 +101,19 @@ impl Wire {
     {
         self.parts.clear();
         self.is_down = true;
+    }
+
+    /// Where it is the link with the first of these nodes, it is one with the second now, on which nothing came or went.
+    pub(crate) fn open_anew(&mut self, older: &Node, next: &Node)
+        ensures { self.new ≡ opened_anew older.now next.now self.old }
+    {
+        if self.node != *older {
+            return;
+        }
+        self.node = next.copy();
+        self.read = 0;
+        self.written = 0;
+        self.close();
+        self.is_down = false;
     }
 }

@@ -1,13 +1,16 @@
 //! A node's end of lines.
-ghost use Rattle.std.specs.Prelude.{◌≡◌, ◌==◌, [], not, map, filter, IfOk};
+ghost use Rattle.std.specs.Prelude.{◌≡◌, ◌==◌, ◌||◌, [], not, map, filter, IfOk};
+ghost use Rattle.std.specs.List.{list_all};
+ghost use Rattle.term.specs.Nodes.{name_of};
 ghost use Rattle.wire_end.specs.Wirings.{place, new_wire};
 
 use crate::faults::HearFault;
 use crate::line::LinkLine;
 use crate::orders::push_orders;
+use crate::saying::Present;
 use crate::sending::send_lines;
 use crate::wire::Wire;
-use letter_lines::Letter;
+use letter_lines::{Letter, Part};
 use link::{Inbox, LinkFault, Post, Station, Unsent};
 use node_loop::{Item, Stamped, Task};
 use past::Log as History;
@@ -85,6 +88,13 @@ fn place_of(wires: &[Wire], node: &Node) -> Option<usize>
     wires.iter().position(|wire| wire.node() == node)
 }
 
+/// Whether no link is with another node of this one's name.
+fn is_only(wires: &[Wire], node: &Node) -> bool
+    ensures { result ≡ list_all (λ w. not (name_of w.node == name_of node.now) || (w.node == node.now)) wires.now }
+{
+    wires.iter().all(|wire| wire.node().name() != node.name() || wire.node() == node)
+}
+
 /// The links of a node with all others of its world.
 fn new_wires(alloc: Global, node: &Node, world: &NodeSet) -> Result<Vec<Wire>, AllocError>
     ensures { IfOk result (λ wires. wires.items ≡ map new_wire (filter (λ n. not (n == node.now)) world.now)) }
@@ -104,9 +114,11 @@ impl WireEnd {
     ghost use Rattle.link.specs.declared.faults.LinkFault.TheVariants.{Memory};
     ghost use Rattle.node_loop.specs.declared.item.Item.TheVariants.{Letter as LetterItem};
     ghost use Rattle.wire_end.specs.declared.wire.Wire.{Wire as AWire};
+    ghost use Rattle.wire_end.specs.Saying.{present, is_said};
+    ghost use Rattle.wire_end.specs.Starting.{is_alone, with_started};
     ghost use Rattle.wire_end.specs.Wirings.{begun, kept, printed, wire_at, Posts, Refuses, Unsent as IsUnsent};
     ghost use Rattle.wire_end.specs.Links.{HearsPart};
-    ghost use Rattle.wire_end.specs.Hearing.{Hears, Loses, laid, read_at};
+    ghost use Rattle.wire_end.specs.Hearing.{Hears, Loses, laid, read_at, fits_at};
     ghost use Rattle.wire_end.specs.Orders.{orders_of};
 
     /// The end of this node of a world: nothing came or went.
@@ -127,6 +139,36 @@ impl WireEnd {
             taken: History::new(),
             read: History::new(),
         })
+    }
+
+    /// The nodes at present, as far as this end knows.
+    fn present(&self) -> Present<'_>
+        ensures node { result.node.now ≡ self.now.node }
+        ensures wires { result.wires.now ≡ self.now.wires }
+    {
+        Present {
+            node: &self.node,
+            wires: self.wires.as_slice(),
+        }
+    }
+
+    /// Whether it has a link with this node, and with no other of its name, which isn't its own either.
+    pub fn is_linked_with(&self, node: &Node) -> bool
+        ensures { result ≡ is_alone node.now self.now }
+    {
+        let wires = self.wires.as_slice();
+        let Some(_place) = place_of(wires, node) else {
+            return false;
+        };
+        is_only(wires, node) && self.node.name() != node.name()
+    }
+
+    /// Whether the letter that this part ends on the link at this place, if it ends one, is such as the node relies on.
+    fn fits(&self, place: usize, part: &Part) -> bool
+        requires { place < length self.now.wires }
+        ensures { result ≡ fits_at place part.now self.now }
+    {
+        self.present().says_by(part, self.wires[place].parts())
     }
 
     /// What is to be printed of what letters order, with this one behind the others. Most letters order nothing.
@@ -172,6 +214,7 @@ impl WireEnd {
     }
 
     /// The next line of the link with this node was read. A letter that is whole now waits to be taken, with the stamp of its last line.
+    /// A line that ends a letter which no node says, as far as this end knows, isn't taken: so what is taken names no node that hasn't started.
     /// A line that isn't taken changed nothing, but where memory was refused for the letter that it ends: then the line is read and the
     /// letter is lost, so the end isn't to be used any more.
     pub fn hear(&mut self, from: &Node, line: LinkLine) -> Result<(), HearFault>
@@ -180,6 +223,9 @@ impl WireEnd {
         let Some(place) = place_of(self.wires.as_slice(), from) else {
             return Err(HearFault::NoSuchNode);
         };
+        if !self.fits(place, &line.part) {
+            return Err(HearFault::Stray);
+        }
         let stamp = line.stamp;
         if let Some(letter) = self.hear_at(place, from, line)? {
             self.lay(from, Stamped { stamp, letter })?;
@@ -202,6 +248,16 @@ impl WireEnd {
         self.lay(node, Stamped { stamp: 0, letter })?;
         self.wires[place].close();
         Ok(())
+    }
+
+    /// The next node of another one's name has started: the link with the one before it is one with that now, on which nothing came or went.
+    /// What came of the one before waits to be taken still.
+    pub fn started(&mut self, older: &Node, next: &Node)
+        ensures state { self.new ≡ with_started older.now next.now self.old }
+    {
+        for wire in self.wires.iter_mut() {
+            wire.open_anew(older, next);
+        }
     }
 
     /// A task waits to be taken, behind the others.
@@ -231,11 +287,16 @@ impl WireEnd {
         mem::replace(&mut self.orders, String::new(self.alloc))
     }
 
-    /// A letter of the node to itself waits behind the others.
+    /// A letter of the node to itself waits behind the others, unless it isn't one that the node relies on.
     fn keep(&mut self, stamped: Stamped) -> Result<(), Unsent<Stamped>>
-        ensures ok { OnOk result (self.new ≡ kept stamped self.old) }
-        ensures err { IfErr result (λ unsent. (unsent ≡ record { fault = Memory; letter = stamped }) × (self.new ≡ self.old)) }
+        ensures ok { OnOk result ((self.new ≡ kept stamped self.old)
+            × (is_said (present self.old) self.old.node self.old.node stamped.letter ≡ true)) }
+        ensures err { IfErr result (λ unsent. (unsent.letter ≡ stamped) × (self.new ≡ self.old)
+            × IsUnsent unsent.fault (is_said (present self.old) self.old.node self.old.node stamped.letter)) }
     {
+        if !self.present().says(&self.node, &stamped.letter) {
+            return Err(unsent(LinkFault::NoSuchNode, stamped));
+        }
         let Ok(orders) = self.orders_with(&stamped.letter) else {
             return Err(unsent(LinkFault::Memory, stamped));
         };

@@ -1,7 +1,8 @@
 -- Which worlds are started, and how they open.
 use Rattle.std.specs.Prelude.{ℕ, Bool, true, false, ◌||◌, ◌≡◌, nat_lt, Option, Some, None, List, [], ◌∷◌, ◌++◌, length, if◌then◌else◌}
 use Rattle.protocol_model.specs.World.{Opening as AnyOpening}
-use Rattle.term.specs.NodeSets.{set_of, most_nodes}
+use Rattle.term.specs.NodeSets.{set_of}
+use Rattle.term.specs.declared.limits.TheConstants.{MOST_NODES}
 use Rattle.std.specs.List.{All}
 use Rattle.term.specs.Nodes.{IsFirst}
 use Rattle.node_core.specs.Held.{Held as Core, AreOf, bound_of, fresh}
@@ -37,7 +38,7 @@ start_refused [] lone = Some NoNode
 start_refused (c ∷ cs) lone =
     if repeats ((c ∷ cs) ++ lone)
     then Some SameNode
-    else (if nat_lt most_nodes (length ((c ∷ cs) ++ lone)) then Some TooManyNodes else None)
+    else (if nat_lt MOST_NODES (length ((c ∷ cs) ++ lone)) then Some TooManyNodes else None)
 
 -- want of memory is no cause that lies in the nodes
 abbrev pub start_fault_of : StartFault → Option StartFault

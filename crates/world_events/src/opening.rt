@@ -2,7 +2,7 @@
 ghost use Rattle.std.specs.Prelude.{◌≡◌, ◌+◌, ◌≤◌, ◌++◌, ◌||◌, ℕ, true, None, Some, length, if◌then◌else◌, OnOk, OnErr, IfOk, IfErr};
 ghost use Rattle.std.specs.List.{All};
 ghost use Rattle.term.specs.Nodes.{IsFirst};
-ghost use Rattle.term.specs.NodeSets.{set_of, most_nodes};
+ghost use Rattle.term.specs.NodeSets.{set_of};
 ghost use Rattle.world_events.specs.Openings.{IsOpened, opening_core, repeats, start_refused, start_fault_of, IsOpening};
 
 use name_table::Names;
@@ -85,7 +85,7 @@ fn start_fault(cluster: &[NodeName], lone: &[NodeName]) -> Option<StartFault>
 
 /// Puts the first nodes of these names into a set that has room for them.
 fn gather(set: &mut NodeSet, nodes: &[NodeName]) -> Result<(), StartFault>
-    requires { length set.old + length nodes.now ≤ most_nodes }
+    requires { length set.old + length nodes.now ≤ MOST_NODES }
     ensures ok { OnOk result ((c : ℕ) → set_of set.new c ≡ (set_of set.old c || set_of nodes.now c)) }
     ensures first { OnOk result (All IsFirst set.old → All IsFirst set.new) }
     ensures room { OnOk result (length set.new ≤ length set.old + length nodes.now) }

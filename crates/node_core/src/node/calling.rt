@@ -4,7 +4,7 @@ use lock_calls::{CallPhase, LockCall};
 use name_table::Names;
 use node_events::{Call, Entry, Letter, Look, NameList, NoticeList, Reply, StepFault, Turn};
 use std::alloc::{AllocError, Global};
-use term::{LockId, Node, Pid, Resource};
+use term::{LockId, MOST_NODES, Node, Pid, Resource};
 use transaction::{NameCall, Nodes, Op, Retries};
 
 impl<N: Names<Memory = Global>> NodeCore<N> {
@@ -199,10 +199,10 @@ impl<N: Names<Memory = Global>> NodeCore<N> {
         nodes: &Nodes,
     ) -> Result<(), AllocError>
         requires accepted { refusal_of (Calls (DeletesLock holder.now id.now nodes.now)) self.old ≡ None }
-        requires room { HasRoom 8 0 1 turn.old }
+        requires room { HasRoom MOST_NODES 0 1 turn.old }
         ensures turn { OnOk result (Makes (λ n a u. called n a (u.node.last_call + 1) (call_of (DeletesLock holder.now id.now nodes.now)) u) self.old turn.old self.new turn.new) }
         ensures kept { KeepsQueue self.old self.new }
-        ensures spends { Spends 8 0 1 turn.old turn.new }
+        ensures spends { Spends MOST_NODES 0 1 turn.old turn.new }
         ensures unchanged { OnErr result (self.new ≡ self.old) }
     {
         let call = self.new_call(holder, id, nodes, Retries::Times(0))?;
@@ -293,7 +293,7 @@ impl<N: Names<Memory = Global>> NodeCore<N> {
         Ok(())
     }
 
-    /// Makes room for what is made of a call, and for one letter more. A deletion goes to eight nodes at most.
+    /// Makes room for what is made of a call, and for one letter more. A deletion goes to all members at most.
     fn make_room_to_call(turn: &mut Turn, call: &Call) -> Result<(), AllocError>
         ensures room { OnOk result (HasRoomToCall call.now turn.new) }
         ensures made { IsSameMade turn.old turn.new }
@@ -302,7 +302,7 @@ impl<N: Names<Memory = Global>> NodeCore<N> {
             Call::Spawn => (1, 0, 1),
             Call::Whereis(_) | Call::RegisteredNames | Call::Notices(_) => (1, 1, 1),
             Call::SetLock(..) => (2, 0, 1),
-            Call::DelLock(..) => (9, 0, 1),
+            Call::DelLock(..) => (MOST_NODES + 1, 0, 1),
             _ => (1, 0, 0),
         };
         turn.reserve(letters, entries, answers)
@@ -351,7 +351,7 @@ impl<N: Names<Memory = Global>> NodeCore<N> {
         ensures room { OnOk result (HasRoom 1 0 0 turn.new) }
         ensures unchanged { OnErr result (self.new ≡ self.old) }
     {
-        turn.reserve(9, 1, 0)?;
+        turn.reserve(MOST_NODES + 1, 1, 0)?;
         // The process lives: so only memory may be refused.
         let Ok(()) = self.watch.exit(process) else {
             return Err(AllocError);

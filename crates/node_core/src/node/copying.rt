@@ -5,11 +5,11 @@ ghost use Rattle.node_core.specs.Copies.{IsSamePhase, IsAsBounded};
 ghost use Rattle.node_core.specs.Steps.{IsAsBefore};
 
 use crate::node::{NodeCore, Phase};
+use exchange::NoticeLists;
 use exit_watch::Watch;
 use lock_calls::LockCalls;
 use lock_table::LockTable;
 use name_table::Names;
-use notice_lists::NoticeLists;
 use std::alloc::{AllocError, Global};
 use transaction::Registrar;
 

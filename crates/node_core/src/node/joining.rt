@@ -175,10 +175,10 @@ impl<N: Names<Memory = Global>> NodeCore<N> {
         joiner: &Node,
         settled: &Settled,
     ) -> Result<(), AllocError>
-        requires { HasRoom 8 0 0 turn.old }
+        requires { HasRoom MOST_NODES 0 0 turn.old }
         ensures told { OnOk result (TellsToAdmit self.now joiner.now settled.now turn.old turn.new) }
         ensures set { OnOk result (IsNodeSet self.now.members) }
-        ensures spends { Spends 8 0 0 turn.old turn.new }
+        ensures spends { Spends MOST_NODES 0 0 turn.old turn.new }
     {
         let admission = admit_of(self.alloc, joiner, settled)?;
         turn.send_copies(&self.members, &Letter::Admit(admission))
@@ -219,8 +219,8 @@ impl<N: Names<Memory = Global>> NodeCore<N> {
         requires current { IsTrue (is_some self.old.registrar.current) }
         requires joiner { set_of self.old.world joiner ≡ true }
         requires within { IsWithin self.old.world asked }
-        requires room { HasRoom 9 1 1 turn.old }
-        ensures spends { Spends 9 1 1 turn.old turn.new }
+        requires room { HasRoom (MOST_NODES + 1) 1 1 turn.old }
+        ensures spends { Spends (MOST_NODES + 1) 1 1 turn.old turn.new }
         ensures turn { (pairs : Table) → IsAdmitting self.old joiner pairs
             → OnOk result (Makes (λ n a. admit n a unnumbered joiner pairs (set_of asked) settled.now) self.old turn.old self.new turn.new) }
         ensures kept { KeepsCalls self.old self.new }
@@ -247,8 +247,8 @@ impl<N: Names<Memory = Global>> NodeCore<N> {
         requires current { IsTrue (is_some self.old.registrar.current) }
         requires joiner { with_older self.old.world joiner ≡ true }
         requires within { IsWithin self.old.world asked }
-        requires room { HasRoom 9 1 1 turn.old }
-        ensures spends { Spends 9 1 1 turn.old turn.new }
+        requires room { HasRoom (MOST_NODES + 1) 1 1 turn.old }
+        ensures spends { Spends (MOST_NODES + 1) 1 1 turn.old turn.new }
         ensures turn { (pairs : Table) → IsAdmitting self.old joiner pairs → settled.now ≡ settle self.old.table pairs
             → OnOk result (Makes (λ n a. held n a unnumbered (AnyOp.Admission joiner pairs) (set_of asked)) self.old turn.old self.new turn.new) }
         ensures kept { KeepsCalls self.old self.new }
@@ -271,7 +271,7 @@ impl<N: Names<Memory = Global>> NodeCore<N> {
             return Ok(());
         }
         self.calls.take(process);
-        turn.reserve(8, 0, 0)?;
+        turn.reserve(MOST_NODES, 0, 0)?;
         turn.send_all(&self.members, &Letter::ReleaseOf(process.copy()));
         Ok(())
     }

@@ -1,6 +1,7 @@
 //! The rules of departures: this node leaves, or is told that another has left.
 ghost use Rattle.std.specs.Prelude.{◌≡◌, OnOk};
 ghost use Rattle.term.specs.NodeSets.{set_of};
+ghost use Rattle.term.specs.declared.limits.TheConstants.{MOST_NODES};
 
 use crate::node::{NodeCore, Phase};
 use lock_calls::CallPhase;
@@ -26,10 +27,10 @@ impl<N: Names<Memory = Global>> NodeCore<N> {
 
     /// The node leaves: it says so to every other node at present.
     pub(super) fn leave(&mut self, turn: &mut Turn)
-        requires { HasRoom 8 1 0 turn.old }
+        requires { HasRoom MOST_NODES 1 0 turn.old }
         ensures turn { Makes (λ n a. event n a (set_of self.old.world) Leaves) self.old turn.old self.new turn.new }
         ensures kept { KeepsQueue self.old self.new }
-        ensures spends { Spends 8 1 0 turn.old turn.new }
+        ensures spends { Spends MOST_NODES 1 0 turn.old turn.new }
     {
         turn.enter(Entry::Left(self.node.copy()));
         let mut others = self.world.copy();
@@ -66,10 +67,10 @@ impl<N: Names<Memory = Global>> NodeCore<N> {
     /// A node has gone down: the round of the registrar is told, or what it writes is awaited of one node less. Memory is refused
     /// only where a round asks for an admission.
     fn lose_current(&mut self, turn: &mut Turn, gone: &Node) -> Result<(), AllocError>
-        requires { HasRoom 9 1 1 turn.old }
+        requires { HasRoom (MOST_NODES + 1) 1 1 turn.old }
         ensures turn { OnOk result (Makes (λ n a. lose_current n a unnumbered gone.now) self.old turn.old self.new turn.new) }
         ensures kept { KeepsCalls self.old self.new }
-        ensures spends { Spends 9 1 1 turn.old turn.new }
+        ensures spends { Spends (MOST_NODES + 1) 1 1 turn.old turn.new }
         ensures refused { OnErr result (is_admission self.old.registrar.current ≡ true) }
     {
         if !self.is_at_work() {
@@ -85,10 +86,10 @@ impl<N: Names<Memory = Global>> NodeCore<N> {
 
     /// A node has gone down: a round or a wait of a process's call, if it has one, is told.
     fn lose_lock(&mut self, turn: &mut Turn, gone: &Node, holder: &Pid)
-        requires { HasRoom 8 0 1 turn.old }
+        requires { HasRoom MOST_NODES 0 1 turn.old }
         ensures turn { Makes (λ n a u. loss_of n a gone.now (call_of holder.now u.node.calls) u) self.old turn.old self.new turn.new }
         ensures kept { KeepsQueue self.old self.new }
-        ensures spends { Spends 8 0 1 turn.old turn.new }
+        ensures spends { Spends MOST_NODES 0 1 turn.old turn.new }
     {
         let Some(call) = self.calls.get(holder) else {
             return;
@@ -104,10 +105,10 @@ impl<N: Names<Memory = Global>> NodeCore<N> {
     fn lose_node(&mut self, turn: &mut Turn, gone: &Node, holders: &[Pid])
         requires holders { holders.now ≡ map (λ c. c.holder) self.old.calls.calls }
         requires ordered { AreOrdered self.old.calls.node (calls_seen self.old.calls) }
-        requires room { HasRoom (8 * length holders.now) 0 (length holders.now) turn.old }
+        requires room { HasRoom (MOST_NODES * length holders.now) 0 (length holders.now) turn.old }
         ensures turn { Makes (λ n a. lose_node n a gone.now) self.old turn.old self.new turn.new }
         ensures kept { KeepsQueue self.old self.new }
-        ensures spends { Spends (8 * length holders.now) 0 (length holders.now) turn.old turn.new }
+        ensures spends { Spends (MOST_NODES * length holders.now) 0 (length holders.now) turn.old turn.new }
     {
         // Its calls are in order: the proof has this from a field.
         let _ = &self.alloc;
@@ -127,11 +128,11 @@ impl<N: Names<Memory = Global>> NodeCore<N> {
     ) -> Result<(), AllocError>
         requires holders { holders.now ≡ map (λ c. c.holder) self.old.calls.calls }
         requires ordered { AreOrdered self.old.calls.node (calls_seen self.old.calls) }
-        requires room { HasRoom (9 + 8 * length holders.now) 3 (2 + length holders.now) turn.old }
+        requires room { HasRoom (MOST_NODES + 1 + MOST_NODES * length holders.now) 3 (2 + length holders.now) turn.old }
         ensures turn { IsOther self.old.world self.old.name gone.now
             → OnOk result (Makes (λ n a. bereave n a unnumbered gone.now) self.old turn.old self.new turn.new) }
         ensures kept { KeepsQueue self.old self.new }
-        ensures spends { Spends (9 + 8 * length holders.now) 3 (2 + length holders.now) turn.old turn.new }
+        ensures spends { Spends (MOST_NODES + 1 + MOST_NODES * length holders.now) 3 (2 + length holders.now) turn.old turn.new }
         ensures refused { OnErr result (is_admission self.old.registrar.current ≡ true) }
     {
         if !self.world.reaches(gone) || *gone == self.node {

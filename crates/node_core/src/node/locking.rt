@@ -1,4 +1,6 @@
 //! The rules of clients' lock calls: each call of a process of this node has rounds of its own.
+ghost use Rattle.term.specs.declared.limits.TheConstants.{MOST_NODES};
+
 use crate::node::NodeCore;
 use boss_order::boss;
 use lock_calls::{CallPhase, LockCall};
@@ -10,7 +12,7 @@ use term::{Node, NodeSet, Pid};
 use transaction::Nodes;
 
 impl<N: Names<Memory = Global>> NodeCore<N> {
-    ghost use Rattle.std.specs.Prelude.{◌≡◌, ℕ, ◌<◌, false, Some, length, map, OnOk, OnErr};
+    ghost use Rattle.std.specs.Prelude.{◌≡◌, ◌*◌, ℕ, ◌<◌, false, Some, length, map, OnOk, OnErr};
     ghost use Rattle.protocol_model.specs.Node.{LockCall as AnyCall, targets, call_of, drop_call};
     ghost use Rattle.protocol_model.specs.Client.{close_call, ask_lock, try_lock, give_lock, refuse_lock, hear_lock, delete_lock, owe_less, retry_locks};
     ghost use Rattle.protocol_model.specs.Letter.{Letter as AnyLetter};
@@ -121,9 +123,9 @@ impl<N: Names<Memory = Global>> NodeCore<N> {
     /// These nodes get their grant of the call back.
     fn give_lock(&self, turn: &mut Turn, call: &LockCall, granted: &NodeSet)
         requires within { IsWithin self.now.world granted.now }
-        requires room { HasRoom 8 0 0 turn.old }
+        requires room { HasRoom MOST_NODES 0 0 turn.old }
         ensures turn { Makes (λ n a. give_lock n a (as_call call.now) (set_of granted.now)) self.now turn.old self.now turn.new }
-        ensures spends { Spends 8 0 0 turn.old turn.new }
+        ensures spends { Spends MOST_NODES 0 0 turn.old turn.new }
     {
         let letter = Letter::GiveBack(call.id.copy(), call.holder.copy(), false);
         turn.send_all(granted, &letter);
@@ -149,10 +151,10 @@ impl<N: Names<Memory = Global>> NodeCore<N> {
     /// A node answers the round of a process's call, if there is one: the rest are asked where it is the boss's grant,
     /// and the round may be over.
     pub(super) fn hear_lock(&mut self, turn: &mut Turn, from: &Node, holder: &Pid, granted: bool)
-        requires { HasRoom 16 0 1 turn.old }
+        requires { HasRoom (2 * MOST_NODES) 0 1 turn.old }
         ensures turn { Makes (λ n a u. hear_lock n a from.now granted (call_of holder.now u.node.calls) u) self.old turn.old self.new turn.new }
         ensures kept { KeepsQueue self.old self.new }
-        ensures spends { Spends 16 0 1 turn.old turn.new }
+        ensures spends { Spends (2 * MOST_NODES) 0 1 turn.old turn.new }
     {
         let Some(call) = self.calls.get(holder) else {
             return;
@@ -170,10 +172,10 @@ impl<N: Names<Memory = Global>> NodeCore<N> {
 
     /// The round of a process's call ends, where it is over.
     pub(super) fn end_lock(&mut self, turn: &mut Turn, holder: &Pid)
-        requires { HasRoom 8 0 1 turn.old }
+        requires { HasRoom MOST_NODES 0 1 turn.old }
         ensures turn { Makes (λ n a u. end_of n a (call_of holder.now u.node.calls) u) self.old turn.old self.new turn.new }
         ensures kept { KeepsQueue self.old self.new }
-        ensures spends { Spends 8 0 1 turn.old turn.new }
+        ensures spends { Spends MOST_NODES 0 1 turn.old turn.new }
     {
         let Some(call) = self.calls.get(holder) else {
             return;
@@ -201,10 +203,10 @@ impl<N: Names<Memory = Global>> NodeCore<N> {
         mut call: LockCall,
     ) -> Result<(), AllocError>
         requires own { IsOwnCall self.old call }
-        requires room { HasRoom 8 0 1 turn.old }
+        requires room { HasRoom MOST_NODES 0 1 turn.old }
         ensures turn { OnOk result (Makes (λ n a. delete_lock n a (as_call call)) self.old turn.old self.new turn.new) }
         ensures kept { KeepsQueue self.old self.new }
-        ensures spends { Spends 8 0 1 turn.old turn.new }
+        ensures spends { Spends MOST_NODES 0 1 turn.old turn.new }
         ensures unchanged { OnErr result (self.new ≡ self.old) }
     {
         let nodes = self.targets(&call.nodes);

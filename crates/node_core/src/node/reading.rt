@@ -11,7 +11,7 @@ use lock_table::Verdict;
 use name_table::{Change, Names};
 use node_events::{Letter, Turn};
 use std::alloc::{AllocError, Global};
-use term::{LockId, Node, Pid};
+use term::{LockId, MOST_NODES, Node, Pid};
 
 /// Whether the lock table grants.
 fn is_grant(verdict: &Verdict) -> bool
@@ -34,7 +34,7 @@ fn note_change(watch: &mut Watch, change: &Change) -> Result<(), AllocError>
 }
 
 impl<N: Names<Memory = Global>> NodeCore<N> {
-    ghost use Rattle.std.specs.Prelude.{ℕ, true, false, ◌+◌, ◌≤◌, length, OnErr};
+    ghost use Rattle.std.specs.Prelude.{ℕ, true, false, ◌+◌, ◌*◌, ◌≤◌, length, OnErr};
     ghost use Rattle.protocol_model.specs.LockTable.{is_free_for};
     ghost use Rattle.protocol_model.specs.Letter.{Letter as AnyLetter};
     ghost use Rattle.protocol_model.specs.Node.{unless_told, wrote};
@@ -82,10 +82,10 @@ impl<N: Names<Memory = Global>> NodeCore<N> {
         holder: &Pid,
         granted: bool,
     ) -> Result<(), AllocError>
-        requires { HasRoom 17 1 1 turn.old }
+        requires { HasRoom (2 * MOST_NODES + 1) 1 1 turn.old }
         ensures turn { OnOk result (Makes (λ n a. hear n a unnumbered from.now holder.now granted) self.old turn.old self.new turn.new) }
         ensures kept { KeepsQueue self.old self.new }
-        ensures spends { Spends 17 1 1 turn.old turn.new }
+        ensures spends { Spends (2 * MOST_NODES + 1) 1 1 turn.old turn.new }
         ensures unchanged { OnErr result (self.new ≡ self.old) }
     {
         if *holder != self.registrar_pid() {
@@ -155,22 +155,24 @@ impl<N: Names<Memory = Global>> NodeCore<N> {
         ensures unchanged { OnErr result (is_admission self.old.registrar.current ≡ false → self.new ≡ self.old) }
     {
         let holders = self.calls.holders(self.alloc)?;
-        let room = holders.len().checked_mul(8).ok_or(AllocError)?;
-        let room = room.checked_add(10).ok_or(AllocError)?;
+        // A call of each of these processes may give its lock back to all nodes, and the registrar's operation gives its own back, too, and may
+        // start what is next; a letter more is left.
+        let room = holders.len().checked_mul(MOST_NODES).ok_or(AllocError)?;
+        let room = room.checked_add(MOST_NODES + 2).ok_or(AllocError)?;
         turn.reserve(room, 3, room)?;
         self.bereave(turn, gone, &holders)
     }
 
     /// Makes room for what is made of a letter, and for one letter more, by which the registrar may start what is next. An answer may
-    /// ask the rest of eight nodes and then be told to all of them, and what is applied frees them all. The room for `Admit`,
+    /// ask the rest of the members and then be told to all of them, and what is applied frees them all. The room for `Admit`,
     /// `Welcome` and `Down` is made where they are read.
     fn make_room(turn: &mut Turn, letter: &Letter) -> Result<(), AllocError>
         ensures room { OnOk result (HasRoomToRead letter.now turn.new) }
         ensures made { IsSameMade turn.old turn.new }
     {
         let (letters, entries, answers) = match letter {
-            Letter::LockAnswer(..) => (18, 1, 1),
-            Letter::Applied => (9, 1, 1),
+            Letter::LockAnswer(..) => (2 * MOST_NODES + 2, 1, 1),
+            Letter::Applied => (MOST_NODES + 1, 1, 1),
             Letter::GivenBack(_) | Letter::JoinRefused => (1, 0, 1),
             Letter::JoinAsk(_) => (2, 1, 0),
             _ => (2, 0, 0),

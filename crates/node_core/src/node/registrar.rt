@@ -1,4 +1,6 @@
 //! The rules of the registrar, which runs its operations one at a time, each under the global lock.
+ghost use Rattle.term.specs.declared.limits.TheConstants.{MOST_NODES};
+
 use crate::node::{NodeCore, Phase};
 use exchange::settle;
 use name_table::{Change, Names};
@@ -9,7 +11,7 @@ use term::{LockId, Name, Node, NodeSet, Pid};
 use transaction::{NameCall, Op};
 
 impl<N: Names<Memory = Global>> NodeCore<N> {
-    ghost use Rattle.std.specs.Prelude.{◌≡◌, ◌||◌, ℕ, true, false, Some, OnOk, OnErr, is_some, IsTrue};
+    ghost use Rattle.std.specs.Prelude.{◌≡◌, ◌+◌, ◌||◌, ℕ, true, false, Some, OnOk, OnErr, is_some, IsTrue};
     ghost use Rattle.std.specs.Option.{option_map};
     ghost use Rattle.registry_model.specs.Call.{reply_to};
     ghost use Rattle.registry_model.specs.Table.{get, owns};
@@ -56,9 +58,9 @@ impl<N: Names<Memory = Global>> NodeCore<N> {
     /// These nodes get the global lock back.
     fn give_global(&self, turn: &mut Turn, nodes: &NodeSet)
         requires within { IsWithin self.now.world nodes.now }
-        requires room { HasRoom 8 0 0 turn.old }
+        requires room { HasRoom MOST_NODES 0 0 turn.old }
         ensures turn { Makes (λ n a. give_global n a (set_of nodes.now)) self.now turn.old self.now turn.new }
-        ensures spends { Spends 8 0 0 turn.old turn.new }
+        ensures spends { Spends MOST_NODES 0 0 turn.old turn.new }
     {
         turn.send_all(nodes, &self.lock_back());
     }
@@ -89,10 +91,10 @@ impl<N: Names<Memory = Global>> NodeCore<N> {
     pub(super) fn finish(&mut self, turn: &mut Turn, asked: &NodeSet, reply: Option<Reply>)
         requires current { IsTrue (is_some self.old.registrar.current) }
         requires within { IsWithin self.old.world asked.now }
-        requires room { HasRoom 8 0 1 turn.old }
+        requires room { HasRoom MOST_NODES 0 1 turn.old }
         ensures turn { Works (λ op n a. finish n a op (set_of asked.now) (option_map reply_of reply)) self.old turn.old self.new turn.new }
         ensures kept { KeepsCalls self.old self.new }
-        ensures spends { Spends 8 0 1 turn.old turn.new }
+        ensures spends { Spends MOST_NODES 0 1 turn.old turn.new }
     {
         self.answer_op(turn, reply);
         self.give_global(turn, &asked.beyond(&self.told));
@@ -103,10 +105,10 @@ impl<N: Names<Memory = Global>> NodeCore<N> {
     fn done(&mut self, turn: &mut Turn, asked: &NodeSet, reply: Option<Reply>)
         requires current { IsTrue (is_some self.old.registrar.current) }
         requires within { IsWithin self.old.world asked.now }
-        requires room { HasRoom 8 1 1 turn.old }
+        requires room { HasRoom MOST_NODES 1 1 turn.old }
         ensures turn { Works (λ op n a. done n a op (set_of asked.now) (option_map reply_of reply)) self.old turn.old self.new turn.new }
         ensures kept { KeepsCalls self.old self.new }
-        ensures spends { Spends 8 1 1 turn.old turn.new }
+        ensures spends { Spends MOST_NODES 1 1 turn.old turn.new }
     {
         turn.enter(Entry::Done(self.node.copy()));
         self.finish(turn, asked, reply);
@@ -116,10 +118,10 @@ impl<N: Names<Memory = Global>> NodeCore<N> {
     fn write(&mut self, turn: &mut Turn, asked: NodeSet, reply: Option<Reply>, change: Change)
         requires current { IsTrue (is_some self.old.registrar.current) }
         requires within { IsWithin self.old.world asked }
-        requires room { HasRoom 8 0 0 turn.old }
+        requires room { HasRoom MOST_NODES 0 0 turn.old }
         ensures turn { Works (λ op n a. write n a op (set_of asked) (option_map reply_of reply) (change_of change)) self.old turn.old self.new turn.new }
         ensures kept { KeepsCalls self.old self.new }
-        ensures spends { Spends 8 0 0 turn.old turn.new }
+        ensures spends { Spends MOST_NODES 0 0 turn.old turn.new }
     {
         self.registrar.await_from(&self.members);
         self.phase = Phase::Writing(asked, reply);
@@ -165,10 +167,10 @@ impl<N: Names<Memory = Global>> NodeCore<N> {
     fn decide(&mut self, turn: &mut Turn, asked: NodeSet, call: u32, name_call: NameCall)
         requires current { self.old.registrar.current ≡ Some (NameOp call name_call) }
         requires within { IsWithin self.old.world asked }
-        requires room { HasRoom 8 1 1 turn.old }
+        requires room { HasRoom MOST_NODES 1 1 turn.old }
         ensures turn { Works (λ op n a. held n a unnumbered op (set_of asked)) self.old turn.old self.new turn.new }
         ensures kept { KeepsCalls self.old self.new }
-        ensures spends { Spends 8 1 1 turn.old turn.new }
+        ensures spends { Spends MOST_NODES 1 1 turn.old turn.new }
     {
         let reply = self.reply_to(&name_call);
         let change = name_call.change();
@@ -183,10 +185,10 @@ impl<N: Names<Memory = Global>> NodeCore<N> {
     fn strike(&mut self, turn: &mut Turn, asked: NodeSet, process: Pid)
         requires current { self.old.registrar.current ≡ Some (Strike process) }
         requires within { IsWithin self.old.world asked }
-        requires room { HasRoom 8 1 0 turn.old }
+        requires room { HasRoom MOST_NODES 1 0 turn.old }
         ensures turn { Works (λ op n a. held n a unnumbered op (set_of asked)) self.old turn.old self.new turn.new }
         ensures kept { KeepsCalls self.old self.new }
-        ensures spends { Spends 8 1 0 turn.old turn.new }
+        ensures spends { Spends MOST_NODES 1 0 turn.old turn.new }
     {
         turn.enter(Entry::Strike(process.copy()));
         self.write(turn, asked, None, Change::StrikeOwner(process));
@@ -195,10 +197,10 @@ impl<N: Names<Memory = Global>> NodeCore<N> {
     /// The lock is held: the current operation is decided. Memory is refused only for an admission, and then the node is as it was.
     pub(super) fn held(&mut self, turn: &mut Turn, asked: NodeSet) -> Result<(), AllocError>
         requires within { IsWithin self.old.world asked }
-        requires room { HasRoom 9 1 1 turn.old }
+        requires room { HasRoom (MOST_NODES + 1) 1 1 turn.old }
         ensures turn { OnOk result (Works (λ op n a. held n a unnumbered op (set_of asked)) self.old turn.old self.new turn.new) }
         ensures kept { KeepsCalls self.old self.new }
-        ensures spends { Spends 9 1 1 turn.old turn.new }
+        ensures spends { Spends (MOST_NODES + 1) 1 1 turn.old turn.new }
         ensures refused { OnErr result (is_admission self.old.registrar.current ≡ true) }
         ensures unchanged { OnErr result (self.new ≡ self.old) }
     {
@@ -227,10 +229,10 @@ impl<N: Names<Memory = Global>> NodeCore<N> {
     /// The round failed: who granted gets the lock back, and the operation waits for a retry.
     pub(super) fn give_up(&mut self, turn: &mut Turn, granted: &NodeSet)
         requires within { IsWithin self.old.world granted.now }
-        requires room { HasRoom 8 0 0 turn.old }
+        requires room { HasRoom MOST_NODES 0 0 turn.old }
         ensures turn { Works (λ op n a. give_up n a op (set_of granted.now)) self.old turn.old self.new turn.new }
         ensures kept { KeepsCalls self.old self.new }
-        ensures spends { Spends 8 0 0 turn.old turn.new }
+        ensures spends { Spends MOST_NODES 0 0 turn.old turn.new }
     {
         self.phase = Phase::Waiting;
         self.give_global(turn, granted);
@@ -238,10 +240,10 @@ impl<N: Names<Memory = Global>> NodeCore<N> {
 
     /// A node has written the change, or has gone down: one less is awaited, and where none is left the operation is done.
     pub(super) fn await_less(&mut self, turn: &mut Turn, from: &Node)
-        requires { HasRoom 8 1 1 turn.old }
+        requires { HasRoom MOST_NODES 1 1 turn.old }
         ensures turn { Makes (λ n a u. await_less n a from.now u.node.current u) self.old turn.old self.new turn.new }
         ensures kept { KeepsCalls self.old self.new }
-        ensures spends { Spends 8 1 1 turn.old turn.new }
+        ensures spends { Spends MOST_NODES 1 1 turn.old turn.new }
     {
         if !self.is_at_work() {
             return;

@@ -1,4 +1,6 @@
 //! The rounds of the registrar: the lock is asked for, first of the boss and then of the rest.
+ghost use Rattle.term.specs.declared.limits.TheConstants.{MOST_NODES};
+
 use crate::node::{NodeCore, Phase};
 use boss_order::boss;
 use locker::{Ending, Round};
@@ -9,7 +11,7 @@ use term::Node;
 use transaction::Op;
 
 impl<N: Names<Memory = Global>> NodeCore<N> {
-    ghost use Rattle.std.specs.Prelude.{◌≡◌, ◌+◌, ◌≤◌, ℕ, true, false, None, Some, OnOk, OnErr, length};
+    ghost use Rattle.std.specs.Prelude.{◌≡◌, ◌+◌, ◌*◌, ◌≤◌, ℕ, true, false, None, Some, OnOk, OnErr, length};
     ghost use Rattle.protocol_model.specs.Letter.{Global as GlobalId, Letter as AnyLetter};
     ghost use Rattle.protocol_model.specs.Registrar.{registrar, ask_global, ask_rest, start_queue, start, retry_global};
     ghost use Rattle.protocol_model.specs.Deciding.{end_round, hear_answer};
@@ -103,9 +105,9 @@ impl<N: Names<Memory = Global>> NodeCore<N> {
     )
         requires within { IsWithin self.now.world round.now.nodes }
         requires plain { has_lists request.now ≡ false }
-        requires room { HasRoom 8 0 0 turn.old }
+        requires room { HasRoom MOST_NODES 0 0 turn.old }
         ensures turn { Makes (λ n a. ask_rest n a from.now granted (letter_of request.now) (seen round.now)) self.now turn.old self.now turn.new }
-        ensures spends { Spends 8 0 0 turn.old turn.new }
+        ensures spends { Spends MOST_NODES 0 0 turn.old turn.new }
     {
         if !round.opens(from, granted) {
             return;
@@ -115,8 +117,8 @@ impl<N: Names<Memory = Global>> NodeCore<N> {
 
     /// The round ends, where it is over. Memory is refused only where it asks for an admission.
     pub(super) fn end_round(&mut self, turn: &mut Turn) -> Result<(), AllocError>
-        requires { HasRoom 9 1 1 turn.old }
-        ensures spends { Spends 9 1 1 turn.old turn.new }
+        requires { HasRoom (MOST_NODES + 1) 1 1 turn.old }
+        ensures spends { Spends (MOST_NODES + 1) 1 1 turn.old turn.new }
         ensures refused { OnErr result (is_admission self.old.registrar.current ≡ true) }
         ensures unchanged { OnErr result (self.new ≡ self.old) }
         ensures turn { (round : HeldRound) → self.old.phase ≡ Asking round
@@ -155,8 +157,8 @@ impl<N: Names<Memory = Global>> NodeCore<N> {
         from: &Node,
         granted: bool,
     ) -> Result<(), AllocError>
-        requires { HasRoom 17 1 1 turn.old }
-        ensures spends { Spends 17 1 1 turn.old turn.new }
+        requires { HasRoom (2 * MOST_NODES + 1) 1 1 turn.old }
+        ensures spends { Spends (2 * MOST_NODES + 1) 1 1 turn.old turn.new }
         ensures unchanged { OnErr result (self.new ≡ self.old) }
         ensures turn { OnOk result (Makes (λ n a u. hear_answer n a unnumbered from.now granted u.node.current u) self.old turn.old self.new turn.new) }
         ensures kept { KeepsCalls self.old self.new }

@@ -1,10 +1,11 @@
 //! Inboxes in one thread, and between three.
 ghost use Rattle.std.specs.Prelude.{◌<◌};
 
-use link::{INBOX_ROOM, LinkFault, Mailbox, Port, Sourced, compare, open};
+use link::{LinkFault, Mailbox, Port, Sourced, compare, open};
 use std::alloc::Global;
 use std::sync::Wait;
 use std::thread::{Threads, join};
+use term::INBOX_ROOM;
 
 /// A number, and which sender put it.
 #[derive(Clone, Copy, Debug, PartialEq, Eq)]

@@ -1,5 +1,5 @@
 //! The dead, as spans of serials.
-use spans::Dead;
+use exit_watch::Dead;
 
 /// Whether these die, in this order, and the dead are so many spans then.
 fn die(dead: &mut Dead, serials: &[u32], spans: usize) -> bool {

@@ -1,6 +1,6 @@
 //! What the processes of a node were sent.
 use crate::tables::reading::notices_of;
-use notice_lists::NoticeLists;
+use exchange::NoticeLists;
 use std::alloc::Global;
 use term::{Node, parse_node};
 

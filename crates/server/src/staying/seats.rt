@@ -4,12 +4,12 @@ ghost use Rattle.console.specs.Callers.{IsEnd};
 ghost use Rattle.server.specs.Staying.{AreSeatsOf, GivesOut, share};
 
 use crate::staying::desk::StayingCluster;
-use node_threads::{ForgottenNotes, MOST_SEATS, Seat, SeatFault};
+use node_threads::{ForgottenNotes, Seat, SeatFault};
 use std::alloc::{AllocError, Global};
 use std::sync::{Mutex, Wait};
 use std::thread::Parker;
 use std::time::Duration;
-use term::{Node, NodeName, NodeSet};
+use term::{MOST_SEATS, Node, NodeName, NodeSet};
 
 /// How long who waits for a seat sleeps at most, in milliseconds. A bell ends a sleep. Two may sleep by one bell for a moment, of whom one is
 /// to have a seat already, and the other's ring may be lost then.

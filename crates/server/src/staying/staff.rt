@@ -22,14 +22,10 @@ use std::sync::{Arc, Mutex, Wait};
 use std::thread;
 use std::thread::{Promise, PromisedHandle, Threads};
 use std::time::{Clock, Duration};
-use term::NodeSet;
+use term::{ENTRANCES, NodeSet};
 
 /// How many messages the desk leaves unread before those that say more wait.
 const MESSAGES: usize = 256;
-
-/// How many connections are served beside those of the consoles that may be attached: so many at least may be silent, or show no cookie,
-/// before they keep anybody out.
-const ENTRANCES: u32 = 16;
 
 /// How long a console may go on without a word to the desk after the cluster has ended, in milliseconds.
 const GRACE: u64 = 1_000;

@@ -2,6 +2,7 @@ use Rattle.std.proofs.Common.{ℕ, List, ◌∙◌, subst, sym, refl, arith}
 use Rattle.std.specs.Io.KnownBytes.{Appends}
 use Rattle.std.specs.Io.Buffered.{reader_remaining}
 use Rattle.std.proofs.lemmas.Result.{err_from_is_err_and}
+use Rattle.term.specs.declared.limits.TheConstants.{MOST_LINES}
 use Rattle.text_lines.specs.declared.faults.StreamFault.{StreamFault}
 use Rattle.text_lines.specs.Lines.{spoken}
 use Rattle.text_lines.specs.Writing.{AppendsPart}
@@ -32,11 +33,11 @@ returns-in_err-write_text-in-Refused g c =
     let new = g.W.Write.contents c.write_text.new.writer in
     let p = err_from_is_err_and c.from_residual-in_err-write_text-in-Refused.result
     c.from_residual-in_err-write_text-in-Refused.ensures.1 in
-    let t = subst (λ (h : Headers). ReadsHeaders input rest 1000000 c.read_headers.new.left h) c.in-Refused.is
+    let t = subst (λ (h : Headers). ReadsHeaders input rest MOST_LINES c.read_headers.new.left h) c.in-Refused.is
     c.in_ok-world.ensures.read in
     Stopped-err input rest old new c.from_residual-in_err-write_text-in-Refused.result p.0 p.1
     (Stopped-writing input rest old new c.in_err-write_text-in-Refused.field-0.0 p.0 p.2
-    (Stopped-refused input rest 1000000 c.read_headers.new.left (omega arith) old new t.0 t.1 t.2 c.in-Refused.fault t.3
+    (Stopped-refused input rest MOST_LINES c.read_headers.new.left (omega arith) old new t.0 t.1 t.2 c.in-Refused.fault t.3
     (AppendsPart-kept old same new _ c.in_ok-world.ensures.kept
     (subst (λ (x : List ℕ). AppendsPart same new x) (c.as_bytes.ensures.value ∙ c.line.ensures)
     c.in_err-write_text-in-Refused.ensures))) refl)
@@ -49,11 +50,11 @@ returns-in-Open g c =
     let old = g.W.Write.contents c.args.writer.now in
     let same = g.W.Write.contents c.read_headers.new.writer in
     let new = g.W.Write.contents c.play_all.new.writer in
-    let t = subst (λ (h : Headers). ReadsHeaders input rest 1000000 c.read_headers.new.left h) c.in-Open.is
+    let t = subst (λ (h : Headers). ReadsHeaders input rest MOST_LINES c.read_headers.new.left h) c.in-Open.is
     c.in_ok-world.ensures.read in
     let q = opened_by (spoken t.0) rest c.in-Open.world c.in-Open.first t.3 in
     let p = c.play_all.ensures in
-    Ran-played input rest 1000000 c.read_headers.new.left (omega arith) old new t.0 t.1 t.2 q.0 q.1 q.2 q.3 q.4
+    Ran-played input rest MOST_LINES c.read_headers.new.left (omega arith) old new t.0 t.1 t.2 q.0 q.1 q.2 q.3 q.4
     c.in-Open.world c.in-Open.first q.5 p.0 p.1 last same c.in_ok-world.ensures.kept c.play_all.new.world
     c.play_all.new.left c.play_all.result refl p.2
 
@@ -63,9 +64,9 @@ returns-in-Ended g c =
     let rest = reader_remaining g.R.Read.remaining c.read_headers.new.reader in
     let old = g.W.Write.contents c.args.writer.now in
     let same = g.W.Write.contents c.read_headers.new.writer in
-    let t = subst (λ (h : Headers). ReadsHeaders input rest 1000000 c.read_headers.new.left h) c.in-Ended.is
+    let t = subst (λ (h : Headers). ReadsHeaders input rest MOST_LINES c.read_headers.new.left h) c.in-Ended.is
     c.in_ok-world.ensures.read in
-    Ran-ended input rest 1000000 c.read_headers.new.left (omega arith) old same t.0 t.1 t.2 t.3
+    Ran-ended input rest MOST_LINES c.read_headers.new.left (omega arith) old same t.0 t.1 t.2 t.3
     c.in_ok-world.ensures.kept
 
 pub returns-in_ok-write_text-in-Refused : goal.returns-in_ok-write_text-in-Refused
@@ -75,9 +76,9 @@ returns-in_ok-write_text-in-Refused g c =
     let old = g.W.Write.contents c.args.writer.now in
     let same = g.W.Write.contents c.read_headers.new.writer in
     let new = g.W.Write.contents c.write_text.new.writer in
-    let t = subst (λ (h : Headers). ReadsHeaders input rest 1000000 c.read_headers.new.left h) c.in-Refused.is
+    let t = subst (λ (h : Headers). ReadsHeaders input rest MOST_LINES c.read_headers.new.left h) c.in-Refused.is
     c.in_ok-world.ensures.read in
-    Ran-refused input rest 1000000 c.read_headers.new.left (omega arith) old new t.0 t.1 t.2 c.in-Refused.fault t.3
+    Ran-refused input rest MOST_LINES c.read_headers.new.left (omega arith) old new t.0 t.1 t.2 c.in-Refused.fault t.3
     (Appends-behind old same new _ c.in_ok-world.ensures.kept
     (subst (λ (x : List ℕ). Appends same new x) (c.as_bytes.ensures.value ∙ c.line.ensures)
     c.in_ok-write_text-in-Refused.ensures))

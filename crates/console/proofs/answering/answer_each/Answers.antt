@@ -2,7 +2,8 @@ use Rattle.std.proofs.Common.{◌≡◌, ◌+◌, ◌<◌, ℕ, List, Option, su
 use Rattle.std.proofs.lemmas.Result.{err_from_is_err_and}
 use Rattle.std.specs.Io.Buffered.{reader_remaining}
 use Rattle.std.specs.Prelude.{min}
-use Rattle.text_lines.specs.Lines.{TakesLine, StopsAtLine, count_of, most_lines}
+use Rattle.text_lines.specs.Lines.{TakesLine, StopsAtLine, count_of}
+use Rattle.term.specs.declared.limits.TheConstants.{MOST_LINES}
 use Rattle.text_lines.specs.declared.faults.StreamFault.{StreamFault}
 use Rattle.text_lines.specs.declared.lines.Line.{Line}
 use Rattle.text_lines.proofs.Known.{MatchResult-err}
@@ -35,7 +36,7 @@ returns-in_err-line g c =
     let r = c.from_residual.result in
     let p = err_from_is_err_and r c.from_residual.ensures.1 in
     MatchResult-err (TalksUntil answers stands stays most input rest old same s t) (TalkStops answers stands stays most input rest old same s t) r p.0 p.1
-    (TalkStops-reading _ _ _ _ _ _ _ _ _ _ _ P rest p.0 (subst (λ (f : StreamFault). StopsAtLine mid rest (min c.loop-line.left most_lines) f) (sym p.2) c.in_err-line.ensures.read))
+    (TalkStops-reading _ _ _ _ _ _ _ _ _ _ _ P rest p.0 (subst (λ (f : StreamFault). StopsAtLine mid rest (min c.loop-line.left MOST_LINES) f) (sym p.2) c.in_err-line.ensures.read))
 
 pub returns-in_err-ended : goal.returns-in_err-ended
 returns-in_err-ended g c =

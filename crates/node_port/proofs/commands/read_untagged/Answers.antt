@@ -5,3 +5,6 @@ returns-in-Some c = λ reader. c.read_letter.ensures reader c.args.text.now c.in
 
 pub returns-in-Some-behind_down : goal.returns-in-Some-behind_down
 returns-in-Some-behind_down c = λ reader. c.read_down.ensures reader c.args.text.now c.in-Some-behind_down.ensures
+
+pub returns-in-Some-behind_started : goal.returns-in-Some-behind_started
+returns-in-Some-behind_started c = λ reader. c.read_started.ensures reader c.args.text.now c.in-Some-behind_started.ensures

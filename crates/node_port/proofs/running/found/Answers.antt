@@ -1,7 +1,6 @@
 use Rattle.std.proofs.lemmas.Result.{err_from_is_err_and}
 use Rattle.text_lines.proofs.Written.{AppendsPart-none}
-use Rattle.node_port.specs.Ran.{first_text}
-use Rattle.std.proofs.Common.{true}
+use Rattle.node_port.specs.Ran.{Founds, first_text}
 use Rattle.node_port.proofs.Opening.{founder_written, founder_partly, founder_stops}
 use Rattle.node_port.proofs.running.found.Goals as goal
 
@@ -23,4 +22,4 @@ pub returns-in_err-port : goal.returns-in_err-port
 returns-in_err-port g c =
     let p = err_from_is_err_and c.from_residual.result c.from_residual.ensures.1 in
     founder_stops c.args.node.now c.args.world.now (g.W.Write.contents c.args.writer.now) (g.W.Write.contents c.args.writer.now)
-    c.from_residual.result p.0 p.1 (AppendsPart-none (g.W.Write.contents c.args.writer.now) (first_text true c.args.node.now))
+    c.from_residual.result p.0 p.1 (AppendsPart-none (g.W.Write.contents c.args.writer.now) (first_text Founds c.args.node.now))

@@ -1,4 +1,4 @@
-use Rattle.std.proofs.Common.{ℕ, ◌≡◌, sym, ap, subst}
+use Rattle.std.proofs.Common.{ℕ, ◌≡◌, ◌∙◌, sym, ap, subst}
 use Rattle.node_loop.specs.Held.{Looping}
 use Rattle.node_loop.specs.Coming.{IsLoopOf}
 use Rattle.node_seats.specs.Publishing.{Publishes}
@@ -11,6 +11,15 @@ use Rattle.node_threads.proofs.running.show.Goals as goal
 pub hand_out-requires-clause-came : goal.hand_out-requires-clause-came
 hand_out-requires-clause-came g c = own_on c.args.node.now c.show-publisher.new.node c.requires.came
     (by_handing_over c.args.node.now c.show-publisher.new.node c.show-publisher.ensures.node)
+
+pub hand_out-requires-clause-shown : goal.hand_out-requires-clause-shown
+hand_out-requires-clause-shown g c = c.show-publisher.ensures.all c.if-shown.true
+
+pub hand_out-requires-clause-written : goal.hand_out-requires-clause-written
+hand_out-requires-clause-written g c = c.show-publisher.ensures.written c.if-shown.true
+
+pub hand_out-requires-clause-book : goal.hand_out-requires-clause-book
+hand_out-requires-clause-book g c = c.show-publisher.ensures.book ∙ c.requires.book
 
 pub returns-clause-came : goal.returns-clause-came
 returns-clause-came g c =
@@ -32,3 +41,9 @@ returns-clause-publishes g c =
           (aside p c.show-publisher.new.node w.hand_out.new.node c.show-publisher.ensures.publishes w.hand_out.ensures.comes w.hand_out.ensures.all)
       | else-shown w ↦ subst (λ (a : Looping). Publishes a p) (sym w.node-is) c.show-publisher.ensures.publishes
     ]
+
+pub returns-clause-host : goal.returns-clause-host
+returns-clause-host g c = elim c.if-shown.branch [
+  | then-shown w ↦ w.host-is ∙ w.hand_out.ensures.same
+  | else-shown w ↦ w.host-is
+]

@@ -1,5 +1,6 @@
-use Rattle.std.proofs.Common.{ℕ, suc, not, refl, ap, subst, ◌∙◌}
+use Rattle.std.proofs.Common.{ℕ, suc, not, refl, sym, ap, subst, ◌∙◌}
 use Rattle.node_loop.specs.Coming.{IsLoopOf}
+use Rattle.node_seats.specs.Hosts.{Hosting}
 use Rattle.node_seats.proofs.Going.{goes_on}
 use Rattle.node_threads.proofs.Soundness.{ends_on, ends_behind, sound_on, sound_to_end}
 use Rattle.node_threads.proofs.running.turns.Goals as goal
@@ -8,11 +9,15 @@ pub returns-then-is_closing-clause-sound : goal.returns-then-is_closing-clause-s
 returns-then-is_closing-clause-sound g c = ends_on c.args.node.now c.args.end.now c.loop.node c.loop.end c.loop.invariant.4
 
 pub loop-init : goal.loop-init
-loop-init g c = (tt, tt, refl, c.requires.came, λ o here. here, refl, c.requires.publishes, (0, refl), refl)
+loop-init g c = (tt, tt, refl, c.requires.came, λ o here. here, refl, c.requires.publishes, (0, refl), refl, refl)
 
 pub show-next-requires-clause-publishes : goal.show-next-requires-clause-publishes
 show-next-requires-clause-publishes g c = goes_on c.loop.publisher.publisher c.loop.node c.turn-outcome.new.node c.loop.invariant.6
     c.turn-outcome.ensures.comes (c.turn-outcome.ensures.owing _ c.loop.invariant.6.1)
+
+pub show-next-requires-clause-book : goal.show-next-requires-clause-book
+show-next-requires-clause-book g c =
+    c.loop.invariant.8 ∙ (c.requires.book ∙ sym (ap (λ (h : Hosting). h.book) c.loop.invariant.9))
 
 pub loop-preserved : goal.loop-preserved
 loop-preserved g c = (
@@ -39,6 +44,7 @@ loop-preserved g c = (
     ),
   ),
   c.show-next.ensures.book ∙ c.loop.invariant.8,
+  c.rest.ensures ∙ (c.show-next.ensures.host ∙ c.loop.invariant.9),
 )
 
 pub returns-then-is_closing-clause-stops : goal.returns-then-is_closing-clause-stops

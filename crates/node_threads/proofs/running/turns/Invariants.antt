@@ -15,3 +15,4 @@ invariant-loop g l =
     × (fixed l.end ≡ fixed l.fn.end) × Publishes l.node l.publisher.publisher
     × ((n : ℕ) × GoesOn n l.fn.node l.node)
     × (l.publisher.publisher.known.book ≡ l.fn.publisher.publisher.known.book)
+    × (l.host ≡ l.fn.host)

@@ -9,7 +9,7 @@ use Rattle.term.proofs.node_names.parse_nodes.Goals as goal
 pub loop-part-init : goal.loop-part-init
 loop-part-init c =
     rw (c.into_iter-part-iterator.ensures.into_iter_gives)
-    (read_none _ _ c.args.text.now c.split-part-items.result _
+    (read_none SpellsNodeName _ _ c.args.text.now c.split-part-items.result _
     (YieldsList-from_str_split 44 c.args.text.now (omega arith) c.split-part-items.ensures.text
     c.split-part-items.ensures.has_more
     c.split-part-items.ensures.pattern)
@@ -25,7 +25,7 @@ returns-in_err-name c =
 pub loop-part-preserved : goal.loop-part-preserved
 loop-part-preserved c =
     rw (c.is_err-is_over.ensures.value)
-    (read_more _ _ c.args.text.now _ _ c.in-Some.part c.first.result _ _ _ c.insert.result c.loop-part.invariant
+    (read_more SpellsNodeName _ _ c.args.text.now _ _ c.in-Some.part c.first.result _ _ _ c.insert.result c.loop-part.invariant
     c.in-Some.ensures.steps
     (subst (SpellsNodeName c.in-Some.part.now) (sym c.first.ensures.node) c.in_ok-name.ensures) c.insert.ensures.inserted c.insert.ensures.set)
 

@@ -1,5 +1,6 @@
 use Rattle.std.proofs.Common.{rules, tests, arith, ◌≡◌, ◌∙◌, ℕ, List, Bor, ◌++◌, true, false, Result, Ok, Err, OnErr, OnOk, IsOk, is_err, sym, ap, map, take, length}
 use Rattle.std.proofs.lemmas.List.{take-append-le, take_all, map-append, length-map}
+use Rattle.term.specs.declared.limits.TheConstants.{MOST_WORDS}
 use Rattle.text_lines.specs.Words.{words}
 use Rattle.text_lines.proofs.Cuts.{taken_with, taken_without}
 use Rattle.text_lines.proofs.words.first_words.Goals.{else-not-is_empty-via-then-not-is_empty+else-is_err, else-not-is_empty-via-else-not-is_empty}
@@ -57,9 +58,9 @@ loop-rest-preserved c = elim c.else-not-is_empty.branch [
 pub returns-then-is_err : goal.returns-then-is_err
 returns-then-is_err c =
     let kept : c.try_push.new.self ≡ c.loop-rest.first = on_err _ (sym c.if-is_err.ensures.value) c.try_push.ensures.err in
-    let full : length c.loop-rest.first.items ≡ 7 = on_err _ (sym c.if-is_err.ensures.value) c.try_push.ensures.full in
-    let count : length (texts c.loop-rest.first.items) ≡ 7 = length-map c.loop-rest.first.items (λ word. word.now) ∙ full in
+    let full : length c.loop-rest.first.items ≡ MOST_WORDS = on_err _ (sym c.if-is_err.ensures.value) c.try_push.ensures.full in
+    let count : length (texts c.loop-rest.first.items) ≡ MOST_WORDS = length-map c.loop-rest.first.items (λ word. word.now) ∙ full in
     rw kept
-    (sym (take_all 7 (texts c.loop-rest.first.items) (omega (arith, count)))
-    ∙ (sym (take-append-le 7 (texts c.loop-rest.first.items) (words c.loop-rest.rest.now) (omega (arith, count)))
-    ∙ ap (take 7) c.loop-rest.invariant.taken))
+    (sym (take_all MOST_WORDS (texts c.loop-rest.first.items) (omega (arith, count)))
+    ∙ (sym (take-append-le MOST_WORDS (texts c.loop-rest.first.items) (words c.loop-rest.rest.now) (omega (arith, count)))
+    ∙ ap (take MOST_WORDS) c.loop-rest.invariant.taken))

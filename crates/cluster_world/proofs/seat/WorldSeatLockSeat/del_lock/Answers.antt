@@ -7,7 +7,8 @@ use Rattle.transaction.specs.declared.reply.LockReply.TheVariants.{Deleted}
 use Rattle.registry_model.specs.Process.{Process}
 use Rattle.node_core.specs.declared.Call.{Call}
 use Rattle.node_core.specs.declared.Call.TheVariants.{DelLock}
-use Rattle.cluster_world.specs.Seats.{most_events, Called, Unanswered}
+use Rattle.cluster_world.specs.Seats.{Called, Unanswered}
+use Rattle.term.specs.declared.limits.TheConstants.{MOST_EVENTS}
 use Rattle.cluster_world.proofs.Unmade.{unmade_call}
 use Rattle.cluster_world.proofs.seat.WorldSeatLockSeat.del_lock.Goals as goal
 
@@ -28,7 +29,7 @@ returns g c =
       c.call.ensures.kept,
       (
         c.in_ok-call.field-0,
-        subst (λ (k : Call). Called c.args.self.now.holder.node k most_events c.args.self.now.world.now c.call.new.self.world.now
+        subst (λ (k : Call). Called c.args.self.now.holder.node k MOST_EVENTS c.args.self.now.world.now c.call.new.self.world.now
             (Some c.in_ok-call.field-0)) call c.in_ok-call.ensures.called,
       ),
     )

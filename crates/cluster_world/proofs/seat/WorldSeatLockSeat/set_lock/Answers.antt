@@ -7,7 +7,8 @@ use Rattle.transaction.specs.declared.reply.LockReply.TheVariants.{Set}
 use Rattle.registry_model.specs.Process.{Process}
 use Rattle.node_core.specs.declared.Call.{Call}
 use Rattle.node_core.specs.declared.Call.TheVariants.{SetLock}
-use Rattle.cluster_world.specs.Seats.{most_events, Called, Unanswered}
+use Rattle.cluster_world.specs.Seats.{Called, Unanswered}
+use Rattle.term.specs.declared.limits.TheConstants.{MOST_EVENTS}
 use Rattle.cluster_world.proofs.Unmade.{unmade_call}
 use Rattle.cluster_world.proofs.seat.WorldSeatLockSeat.set_lock.Goals as goal
 
@@ -26,7 +27,7 @@ returns g c =
         same_world = c.call.ensures.same_world;
       },
       c.call.ensures.kept,
-      subst (λ (k : Call). Called c.args.self.now.holder.node k most_events c.args.self.now.world.now c.call.new.self.world.now
+      subst (λ (k : Call). Called c.args.self.now.holder.node k MOST_EVENTS c.args.self.now.world.now c.call.new.self.world.now
           (Some c.in_ok-granted.granted)) call c.in_ok-granted.ensures.called,
     )
 

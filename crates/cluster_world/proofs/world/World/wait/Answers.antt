@@ -1,7 +1,8 @@
 use Rattle.std.proofs.Common.{ℕ, ◌≡◌, ◌∙◌, None, List, map, ap, sym, subst, arith}
 use Rattle.node_core.specs.declared.Answer.{Answer}
 use Rattle.node_core.specs.NodeEventsSeen.{answer_of}
-use Rattle.cluster_world.specs.Seats.{most_events, verdict_in, Waited}
+use Rattle.cluster_world.specs.Seats.{verdict_in, Waited}
+use Rattle.term.specs.declared.limits.TheConstants.{MOST_EVENTS}
 use Rattle.cluster_world.proofs.Seats.{begins, ends, refused_end, is_answered, waits_on}
 use Rattle.cluster_world.proofs.world.World.wait.Goals as goal
 
@@ -37,5 +38,5 @@ returns-clause-waited g c =
     subst (λ (most : ℕ). Waited c.args.node.now c.args.number most c.args.self.now c.loop.self None) over
     (ends c.args.node.now c.args.number c.loop.counter c.args.self.now c.loop.self c.loop.invariant)
   where
-    over : c.loop.counter ≡ most_events
+    over : c.loop.counter ≡ MOST_EVENTS
     over = omega (arith, c.loop-test.false)

@@ -4,7 +4,7 @@ use Rattle.std.specs.Set.{remove_key}
 use Rattle.std.proofs.Math.Path.{ap₂}
 use Rattle.protocol_model.specs.Watch.{Watch, with_dead}
 use Rattle.exit_watch.specs.Held.{Held, AreDead, KeepsSuspects, is_suspect}
-use Rattle.spans.proofs.Keys.{any-at}
+use Rattle.exit_watch.proofs.Keys.{any-at}
 use Rattle.exit_watch.proofs.Sets.{taken_again}
 use Rattle.exit_watch.proofs.Suspects.{IsNoted, inserted, unsuspected, died-keeps, died-dead}
 use Rattle.exit_watch.proofs.watch.Watch.bury.Goals as goal

@@ -5,7 +5,7 @@ use Rattle.registry_model.specs.Process.{Process}
 use Rattle.registry_model.specs.Table.{owns}
 use Rattle.protocol_model.specs.Watch.{Watch, is_dead, owed}
 use Rattle.exit_watch.specs.Held.{Held, process_of, is_suspect}
-use Rattle.spans.proofs.Keys.{any-at}
+use Rattle.exit_watch.proofs.Keys.{any-at}
 use Rattle.exit_watch.proofs.Sets.{any-empty, not_greater}
 use Rattle.exit_watch.proofs.Suspects.{owed-first, owed-none}
 use Rattle.exit_watch.proofs.watch.Watch.owes.Goals as goal

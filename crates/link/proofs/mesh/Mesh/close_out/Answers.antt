@@ -3,7 +3,7 @@ use Rattle.std.specs.Prelude.{if◌then◌else◌}
 use Rattle.std.specs.Vec.{with_items}
 use Rattle.std.proofs.lemmas.List.{with_items_is}
 use Rattle.protocol_model.specs.Links.{closed_out}
-use Rattle.term.specs.declared.node_set.TheConstants.{MOST_NODES}
+use Rattle.term.specs.declared.limits.TheConstants.{MOST_NODES}
 use Rattle.link.specs.Held.{Held, place, seen}
 use Rattle.link.proofs.Writes.{seen-cleared}
 use Rattle.link.proofs.mesh.Mesh.close_out.Goals as goal

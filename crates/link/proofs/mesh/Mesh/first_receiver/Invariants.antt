@@ -1,6 +1,6 @@
 use Rattle.std.proofs.Common.{ℕ, ◌≡◌, ◌<◌, ◌+◌, ◌*◌, []}
 use Rattle.std.specs.Prelude.{slice_index_or}
-use Rattle.term.specs.declared.node_set.TheConstants.{MOST_NODES}
+use Rattle.term.specs.declared.limits.TheConstants.{MOST_NODES}
 use Rattle.link.proofs.mesh.Mesh.first_receiver.Given as goal
 
 abbrev pub invariant-loop-receiver : goal.invariant-loop-receiver

@@ -1,6 +1,6 @@
 use Rattle.std.proofs.Common.{arith}
 use Rattle.lock_lines.specs.Lines.{holder_passes}
-use Rattle.lock_lines.proofs.Mapping.{mapped_more}
+use Rattle.term.proofs.Mapping.{mapped_more}
 use Rattle.lock_lines.proofs.line.Line.let_holder_pass.Goals as goal
 
 pub loop-call-preserved : goal.loop-call-preserved

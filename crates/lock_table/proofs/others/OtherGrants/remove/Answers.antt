@@ -1,7 +1,5 @@
-use Rattle.std.proofs.Common.{None, sym, subst}
-use Rattle.lock_table.specs.declared.grant.Place.{Place}
+use Rattle.std.proofs.Common.{sym, subst}
 use Rattle.lock_table.specs.Grants.{Gone}
-use Rattle.lock_table.proofs.Index.{SetsAt}
 use Rattle.lock_table.proofs.Keeping.{kept-gone}
 use Rattle.lock_table.proofs.Removal.{gone-swapped}
 use Rattle.lock_table.proofs.others.OtherGrants.remove.Goals as goal
@@ -11,12 +9,11 @@ invariant_of-self c =
     let k = c.args.key.now in
     let es = c.self.inside.grants.entries in
     let found = sym c.in-Some.ensures.value in
-    kept-gone es c.self.inside.by_holder c.self.inside.shared.entries c.self.invariant k c.in-Some.held c.remove.new.self
+    kept-gone es c.self.inside.by_holder.entries c.self.inside.shared.entries c.self.invariant k c.in-Some.held c.take.new.places.entries
     c.leave.new.shared.entries found c.swap_remove.new.self.entries
     (subst (Gone k es) (sym c.swap_remove.ensures.entries) (gone-swapped k es c.in-Some.held found))
     c.swap_remove.ensures.unique c.swap_remove.ensures.updates.0
-    (subst (λ (p : Place). SetsAt p None c.self.inside.by_holder c.remove.new.self) c.of.ensures
-    c.remove.ensures.updates.0)
+    c.take.ensures
     c.leave.ensures
 
 pub returns-in-Some : goal.returns-in-Some

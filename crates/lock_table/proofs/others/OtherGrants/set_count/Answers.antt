@@ -11,14 +11,14 @@ use Rattle.lock_table.proofs.others.OtherGrants.set_count.Goals as goal
 
 pub invariant_of-self : goal.invariant_of-self
 invariant_of-self c =
-    subst (λ (es : List Entry). IsKept es c.self.inside.by_holder c.self.inside.shared.entries)
+    subst (λ (es : List Entry). IsKept es c.self.inside.by_holder.entries c.self.inside.shared.entries)
     (sym (ap (λ m. m.entries) c.get_mut.follows.holds-at-none)) c.self.invariant
 
 pub invariant_of-self-2 : goal.invariant_of-self-2
 invariant_of-self-2 c =
     let v = c.in-Some.held.now in
     let holds = c.get_mut.follows.holds (record v { count = c.args.count }) in
-    kept-recount c.self.inside.grants.entries c.self.inside.by_holder c.self.inside.shared.entries c.self.invariant
+    kept-recount c.self.inside.grants.entries c.self.inside.by_holder.entries c.self.inside.shared.entries c.self.invariant
     c.args.key.now v c.args.count (sym c.in-Some.ensures.value) _ holds.0
     (holds.3 (subst (λ (o : Option Held). IsSome o) c.in-Some.ensures.value refl)).0
 

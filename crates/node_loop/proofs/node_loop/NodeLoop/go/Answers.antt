@@ -2,6 +2,7 @@ use Rattle.std.proofs.Common.{inl, inr, subst}
 use Rattle.node_loop.specs.Held.{Looping}
 use Rattle.node_loop.specs.Turned.{Turned}
 use Rattle.node_loop.proofs.Keeping.{keeps}
+use Rattle.node_loop.proofs.KeepingFrom.{keeps as keeps_from}
 use Rattle.node_loop.proofs.Turning.{held_at}
 use Rattle.node_loop.proofs.node_loop.NodeLoop.go.Goals as goal
 
@@ -56,3 +57,12 @@ returns-clause-turned g c =
 
 pub returns-clause-sound : goal.returns-clause-sound
 returns-clause-sound g c = keeps g.E.Post.posts g.E.Post.refuses g.E.Inbox.takes g.E.Inbox.misses _ _ _ _ _ _ (returns-clause-turned g c)
+
+pub returns-in_default-clause-sound_from : goal.returns-in_default-clause-sound_from
+returns-in_default-clause-sound_from g c = keeps_from g.E.Post.posts g.E.Post.refuses g.E.Inbox.takes g.E.Inbox.misses _ _ _ _ _ _ (returns-in_default-clause-turned g c)
+
+pub returns-in_default-found-clause-sound_from : goal.returns-in_default-found-clause-sound_from
+returns-in_default-found-clause-sound_from g c = keeps_from g.E.Post.posts g.E.Post.refuses g.E.Inbox.takes g.E.Inbox.misses _ _ _ _ _ _ (returns-in_default-found-clause-turned g c)
+
+pub returns-clause-sound_from : goal.returns-clause-sound_from
+returns-clause-sound_from g c = keeps_from g.E.Post.posts g.E.Post.refuses g.E.Inbox.takes g.E.Inbox.misses _ _ _ _ _ _ (returns-clause-turned g c)

@@ -4,7 +4,7 @@ use Rattle.node_port.specs.Commands.{Taken, TakenAs, Follows}
 use Rattle.node_port.specs.Playing.{spent}
 use Rattle.node_port.specs.Working.{PlaysAt}
 use Rattle.node_port.specs.declared.commands.Command.{Command}
-use Rattle.node_port.specs.declared.commands.Command.TheVariants.{Ask, Steps, Letter, Down, Tick}
+use Rattle.node_port.specs.declared.commands.Command.TheVariants.{Ask, Steps, Letter, Down, Started, Tick}
 use Rattle.node_port.specs.declared.port.Port.{Port}
 use Rattle.node_port.specs.declared.port.Standing.{Standing}
 use Rattle.node_port.proofs.port.Port.play.Goals as goal
@@ -40,6 +40,13 @@ returns-in-Down c =
     let b = c.lose.new.self in
     IfOk-weaker c.lose.result (Played (Down c.in-Down.node) a b) (Played c.args.command a b)
     (λ s P. subst (λ (x : Command). Played x a b s) (sym c.in-Down.is) P) c.lose.ensures
+
+pub returns-in-Started : goal.returns-in-Started
+returns-in-Started c =
+    let a = c.args.self.now in
+    let b = c.start.new.self in
+    IfOk-weaker c.start.result (Played (Started c.in-Started.node) a b) (Played c.args.command a b)
+    (λ s P. subst (λ (x : Command). Played x a b s) (sym c.in-Started.is) P) c.start.ensures
 
 pub returns-in-Steps : goal.returns-in-Steps
 returns-in-Steps c =

@@ -1,5 +1,5 @@
 use Rattle.std.proofs.Common.{◌≡◌}
-use Rattle.node_seats.specs.Callers.{nodes_of, seen_of, Learns}
+use Rattle.node_seats.specs.Callers.{nodes_of, seen_of}
 use Rattle.node_seats.proofs.caller.Caller.outcome.Given as goal
 
 abbrev pub invariant-loop : goal.invariant-loop
@@ -8,5 +8,5 @@ invariant-loop g l =
     × (l.self.place ≡ l.fn.self.place) × (l.self.node ≡ l.fn.self.node)
     × (nodes_of l.self ≡ nodes_of l.fn.self)
     × (l.self.next ≡ l.fn.self.next)
-    × Learns (seen_of l.fn.self) (seen_of l.self)
+    × (seen_of l.self ≡ seen_of l.fn.self)
     × (l.self.line ≡ l.fn.self.line)

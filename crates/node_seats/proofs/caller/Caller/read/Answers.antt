@@ -1,6 +1,6 @@
-use Rattle.std.proofs.Common.{ℕ, ◌∙◌, subst}
+use Rattle.std.proofs.Common.{ℕ, ◌∙◌, sym, subst}
 use Rattle.shared_table.specs.Readers.{Finds}
-use Rattle.node_seats.proofs.ShownLengths.{still_told}
+use Rattle.node_seats.proofs.ShownLengths.{still_told, same_book}
 use Rattle.node_seats.proofs.caller.Caller.read.Goals as goal
 
 pub returns-clause-finds : goal.returns-clause-finds
@@ -14,5 +14,8 @@ invariant_of-self c = record {
       c.args.self.now.own c.whereis.ensures.finds)
       c.args.self.now.shown;
   own = c.whereis.ensures.node ∙ c.args.self.now.own;
+  same = c.args.self.now.same
+      ∙ sym (same_book c.whereis.result c.args.self.now.reader.node c.args.name.now c.args.self.now.reader.seen c.whereis.new.self.seen
+      c.whereis.ensures.finds);
   counted = c.args.self.now.counted;
 }

@@ -1,30 +1,15 @@
-use Rattle.std.proofs.Common.{ℕ, List, ◌∙◌, ap, refl, sym, subst}
-use Rattle.shared_table.specs.Told.{Told}
-use Rattle.shared_table.specs.Held.{Looping}
-use Rattle.shared_table.specs.Coming.{IsLoopOf}
-use Rattle.shared_table.specs.Onward.{ComesFrom}
-use Rattle.shared_table.proofs.Onward.{comes_on, comes_from_itself}
-use Rattle.node_seats.proofs.host.Host.hand_out.Goals.{in-None, in-Some+in_default}
+use Rattle.std.proofs.Common.{◌∙◌, ap, sym}
+use Rattle.shared_table.specs.Pages.{Book}
+use Rattle.node_seats.specs.Hosts.{Hosting}
+use Rattle.node_seats.proofs.Telling.{held_where_written}
 use Rattle.node_seats.proofs.host.Host.hand_out.Goals as goal
 
-abbrev owing : Looping → List Told → Looping
-owing a replies = record a { desk = record a.desk { replies = replies } }
+pub lay_all-requires-clause-held : goal.lay_all-requires-clause-held
+lay_all-requires-clause-held g c = held_where_written c.args.node.now c.args.publisher.now c.requires.written
 
-pub loop-init : goal.loop-init
-loop-init g c = (tt, tt, c.requires.came, refl, comes_from_itself c.args.node.now)
+pub lay_all-requires-clause-book : goal.lay_all-requires-clause-book
+lay_all-requires-clause-book g c = c.requires.book ∙ sym (ap (λ (h : Hosting). h.book) c.self.view_is)
 
-pub loop-preserved : goal.loop-preserved
-loop-preserved g c = (
-  tt,
-  tt,
-  subst (λ (n : ℕ). IsLoopOf n c.next-in-loop.new.node) (ap (λ (l : Looping). l.log.node) c.loop.invariant.3) c.next-in-loop.ensures.came,
-  c.next-in-loop.ensures.rest ∙ ap (λ (l : Looping). owing l c.next-in-loop.new.node.desk.replies) c.loop.invariant.3,
-  comes_on c.args.node.now c.loop.node c.next-in-loop.new.node c.loop.invariant.4 c.next-in-loop.ensures.comes,
-)
-
-pub returns-clause-comes : goal.returns-clause-comes
-returns-clause-comes g c = elim c.match-next.branch [
-  | in-None w ↦ subst (ComesFrom c.args.node.now) (sym w.node-is) c.loop.invariant.4
-  | in-Some+in_default w ↦ subst (ComesFrom c.args.node.now) (sym w.node-is)
-      (comes_on c.args.node.now c.loop.node w.next-in-loop.new.node c.loop.invariant.4 w.next-in-loop.ensures.comes)
-]
+pub returns-clause-same : goal.returns-clause-same
+returns-clause-same g c =
+    ap (λ (b : Book). record { yields = c.self.inside.rest.yields; book = b }) c.lay_all.ensures.same ∙ c.self.view_is

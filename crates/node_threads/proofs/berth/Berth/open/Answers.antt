@@ -8,6 +8,7 @@ use Rattle.node_seats.specs.declared.Moment.{Moment}
 use Rattle.node_seats.specs.Moments.{shown_at}
 use Rattle.node_seats.specs.Books.{Known}
 use Rattle.node_seats.specs.Addresses.{Reached}
+use Rattle.node_seats.specs.Hosts.{Hosting}
 use Rattle.node_threads.specs.Wires.{unused}
 use Rattle.node_threads.proofs.Coming.{comes_first}
 use Rattle.node_threads.proofs.Starting.{opens_so, publishes_first}
@@ -55,4 +56,5 @@ invariant_of-result g c =
       publishes_first c.in_ok-own.own c.in_ok-publisher.publisher.publisher c.args.shared.now.stamp c.core.result c.in_ok-own.ensures.new
           c.in_ok-publisher.ensures.log,
       sym (ap (λ (a : Reached Item). a.book) c.in_ok-address.ensures.address ∙ ap (λ (k : Known). k.book) c.in_ok-publisher.ensures.readers),
+      sym (ap (λ (h : Hosting). h.book) c.in_ok-address.ensures.host ∙ ap (λ (k : Known). k.book) c.in_ok-publisher.ensures.readers),
     )

@@ -1,5 +1,5 @@
 use Rattle.std.proofs.Common.{◌≡◌, ◌-◌, List}
-use Rattle.link.specs.declared.mailbox.TheConstants.{INBOX_ROOM}
+use Rattle.term.specs.declared.limits.TheConstants.{INBOX_ROOM}
 use Rattle.node_loop.specs.declared.item.Task.{Task}
 use Rattle.node_threads.specs.Traffics.{with_tasks, lasting}
 use Rattle.node_threads.proofs.ruled_end.RuledEnd.search.Given as goal

@@ -1,5 +1,5 @@
 use Rattle.std.proofs.Common.{◌≡◌, length, sym, ◌∙◌, arith, rules}
-use Rattle.node_seats.specs.declared.place.TheConstants.{MOST_SEATS}
+use Rattle.term.specs.declared.limits.TheConstants.{MOST_SEATS}
 use Rattle.node_threads.proofs.Seats.{none_free, first_free, no_number, one_more}
 use Rattle.node_threads.proofs.seating.Seating.next.Goals as goal
 

@@ -109,3 +109,11 @@ returns-clause-follows g c =
     let req = subst (λ (p : Progress). Publishes a p) (sym c.self.view_is) c.requires in
     follows_noted a b c.in-Some.update taken me.scribe c.add.new.self req.1
     (when_ok c.add.result _ c.add.ensures.ok (c.is_err.ensures.negation ∙ ap not c.if-is_err.false))
+
+pub returns-clause-written : goal.returns-clause-written
+returns-clause-written g c =
+    let me = c.self.inside in
+    let b = c.next_update.new.self in
+    let added : c.add.new.self ≡ record me.scribe { log = me.scribe.log ++ moment false b ∷ [] } =
+    when_ok c.add.result _ c.add.ensures.ok (c.is_err.ensures.negation ∙ ap not c.if-is_err.false) in
+    (me.scribe.log, ap (λ (k : Known). k.log) added)

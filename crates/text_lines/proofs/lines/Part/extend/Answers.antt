@@ -1,4 +1,5 @@
 use Rattle.std.proofs.Common.{◌≡◌, ◌+◌, ◌-◌, ◌==◌, ℕ, List, ◌++◌, length, min, ap, sym, ◌∙◌, arith, take, length-append}
+use Rattle.term.specs.declared.limits.TheConstants.{LONGEST_LINE}
 use Rattle.text_lines.specs.declared.lines.Part.{Part}
 use Rattle.text_lines.proofs.Parts.{take-extend, last-extend, last-same}
 use Rattle.text_lines.proofs.lines.Part.extend.Goals as goal
@@ -7,10 +8,10 @@ use Rattle.text_lines.proofs.lines.Part.extend.Goals.{in-Some, in_default}
 pub returns : goal.returns
 returns c before h =
     let bytes : List ℕ = c.args.bytes.now in
-    let n : c.min.result ≡ min (length bytes) (1025 - length before) = c.min.ensures
+    let n : c.min.result ≡ min (length bytes) (LONGEST_LINE + 1 - length before) = c.min.ensures
     ∙ ap (λ (k : ℕ). min (length bytes) k) (c.saturating_sub-room.ensures
-    ∙ ap (λ (k : ℕ). 1025 - k) h.len) in
-    let kept : c.extend_from_slice.new.self.items ≡ take 1025 (before ++ bytes) = c.in_ok-extend_from_slice.ensures.items
+    ∙ ap (λ (k : ℕ). LONGEST_LINE + 1 - k) h.len) in
+    let kept : c.extend_from_slice.new.self.items ≡ take (LONGEST_LINE + 1) (before ++ bytes) = c.in_ok-extend_from_slice.ensures.items
     ∙ ap (λ (xs : List ℕ). xs ++ take c.min.result bytes) h.text ∙ take-extend before bytes c.min.result n in
     let len : c.args.self.now.len + length bytes ≡ length (before ++ bytes) = omega (
       arith,

@@ -1,3 +1,0 @@
-pub mod Keys
-mod Joining
-mod Counting
