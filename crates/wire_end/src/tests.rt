@@ -34,11 +34,15 @@ fn next_of(node: &Node) -> Result<Node, AllocError> {
     node.next().ok_or(AllocError)
 }
 
-/// Sends that a has left.
-fn send_down(end: &mut WireEnd, to: &Node) -> bool {
-    let letter = Letter::Down;
+/// Sends this letter of the step with the stamp 4.
+fn send(end: &mut WireEnd, to: &Node, letter: Letter) -> bool {
     end.send(to, Item::Letter(Stamped { stamp: 4, letter }))
         .is_ok()
+}
+
+/// Sends that a has left.
+fn send_down(end: &mut WireEnd, to: &Node) -> bool {
+    send(end, to, Letter::Down)
 }
 
 /// Whether the letter that is taken next was sent by the step with this stamp.
@@ -66,10 +70,12 @@ fn letters_go_out_as_lines(rt: HostRuntime) -> Result<(), Fail> {
     let mut end = end_of_a(rt.alloc())?;
     assert!(rt; send_down(&mut end, &node_of("b")?));
     assert_eq!(rt; end.take_lines().as_str(), "send b 1 4 down\n");
-    assert!(rt; send_down(&mut end, &node_of("a")?));
+    assert!(rt; send(&mut end, &node_of("a")?, Letter::Applied));
     assert!(rt; end.take_lines().is_empty());
     assert!(rt; takes_stamp(&mut end, 4));
+    assert!(rt; !send_down(&mut end, &node_of("a")?));
     assert!(rt; !send_down(&mut end, &node_of("c")?));
+    assert!(rt; end.take_lines().is_empty());
     Ok(())
 }
 
