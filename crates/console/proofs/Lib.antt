@@ -3,6 +3,8 @@ mod Behind
 pub mod Borrowing
 mod Choosing
 mod Heeding
+mod Keeping
+mod Knowing
 mod Leaving
 mod LockCalls
 pub mod Looking

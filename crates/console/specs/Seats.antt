@@ -9,7 +9,7 @@ use Rattle.node_seats.specs.declared.fault.SeatFault.{SeatFault}
 use Rattle.registry_model.specs.Process.{Process}
 use Rattle.node_seats.specs.declared.fault.SeatFault.TheVariants.{Step, Memory}
 use Rattle.node_seats.specs.declared.StepFault.TheVariants.{NoSuchProcess}
-use Rattle.node_seats.specs.Callers.{IsEnd}
+use Rattle.node_seats.specs.Callers.{IsEnd, Learns}
 use Rattle.node_seats.specs.Fences.{fence_of}
 use Rattle.node_seats.specs.Seats.{Sitting, Answered, Unanswered, Done, LooksUp, owner_reply}
 use Rattle.console.specs.declared.orders.Order.{Order}
@@ -69,3 +69,8 @@ pub record IsTranscript (s : Sitting) (transcript : Transcript) : Type 0 where
   pub seat : transcript.seat ≡ s.seat
   pub node : transcript.node ≡ s.node
   pub entries : transcript.entries.items ≡ s.entries
+
+-- it is a seat of the same node still, which knows of more moments of the same book, or of no more
+pub record GoesOn (s t : Sitting) : Type 0 where
+  pub node : t.node ≡ s.node
+  pub learns : Learns s.seen t.seen

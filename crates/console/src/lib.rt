@@ -34,7 +34,7 @@ pub use ends::ConsoleEnd;
 pub use faults::GreetFault;
 pub use greeting::{answer_first, greet, read_first, refuse_seat};
 pub use orders::{Awaited, Order};
-pub use serving::serve;
+pub use serving::{serve, serve_from};
 pub use status::{House, Load, Status};
 pub use staying::serve_staying;
 pub use text_lines::StreamFault as ConsoleFault;

@@ -2,7 +2,7 @@
 ghost use Rattle.std.specs.Prelude.{false, MatchResult};
 ghost use Rattle.std.specs.Io.Buffered.{reader_remaining};
 ghost use Rattle.console.specs.Consoles.{Serves, Stops};
-ghost use Rattle.console.specs.Seats.{SeatAnswers, SeatGives, SeatStands, IsTranscript};
+ghost use Rattle.console.specs.Seats.{GoesOn, SeatAnswers, SeatGives, SeatStands, IsTranscript};
 ghost use Rattle.node_seats.specs.Seats.{Sitting};
 ghost use Rattle.console.specs.declared.orders.Order.TheVariants.{Whereis, Exit, Leave};
 
@@ -99,6 +99,27 @@ impl<H: Wait + Clock, T: Notes> Attendant<H> for Seat<T> {
     }
 }
 
+/// Serves a console from a seat, as `serve` does. The seat is its caller's again behind that: its transcript has an entry for each order
+/// that was carried out, and what it knows of its node begins with what it knew before.
+pub fn serve_from<R: Read, W: Write, H: Wait + Clock>(
+    rt: &H,
+    alloc: Global,
+    reader: &mut BufReader<R, Global>,
+    writer: &mut W,
+    seat: &mut Seat,
+) -> Result<(), StreamFault>
+    ensures served { MatchResult result
+        (λ _. Serves SeatAnswers SeatStands false MOST_LINES (reader_remaining R.remaining reader.old) (reader_remaining R.remaining reader.new)
+        (W.contents writer.old) (W.contents writer.new) seat.old seat.new)
+        (Stops SeatAnswers SeatStands false MOST_LINES (reader_remaining R.remaining reader.old) (reader_remaining R.remaining reader.new)
+        (W.contents writer.old) (W.contents writer.new) seat.old seat.new) }
+    ensures own { GoesOn seat.old seat.new }
+{
+    let most = u64::from(MOST_LINES);
+    answer_lines(rt, alloc, reader, writer, seat, false, most)?;
+    Ok(())
+}
+
 /// Serves a console from a seat: each line that is read is answered, as `answer_lines` says, until `quit` or the end of the
 /// input; then all that it left linked exits. The transcript is the seat's, also after a fault: what it had, and an entry for each
 /// order that was carried out, the exits at the end among them.
@@ -117,11 +138,10 @@ pub fn serve<R: Read, W: Write, H: Wait + Clock>(
         × Stops SeatAnswers SeatStands false MOST_LINES (reader_remaining R.remaining reader.old) (reader_remaining R.remaining reader.new)
         (W.contents writer.old) (W.contents writer.new) seat t ended.0) }
 {
-    let most = u64::from(MOST_LINES);
-    let ended = answer_lines(rt, alloc, reader, writer, &mut seat, false, most);
+    let ended = serve_from(rt, alloc, reader, writer, &mut seat);
     let transcript = seat.into_transcript();
     match ended {
-        Ok(_) => Ok(transcript),
+        Ok(()) => Ok(transcript),
         Err(fault) => Err((fault, transcript)),
     }
 }

@@ -1,5 +1,5 @@
 pub use Rattle.node_seats.proofs.Choosing
-mod Places
+pub mod Places
 mod Lines
 mod Coming
 mod Departing

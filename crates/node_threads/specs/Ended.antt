@@ -12,11 +12,12 @@ use Rattle.node_seats.specs.declared.parcel.Parcel.{Parcel}
 use Rattle.node_seats.specs.Lines.{Sent}
 use Rattle.node_seats.specs.Pages.{Book}
 use Rattle.node_seats.specs.Books.{Known}
-use Rattle.node_seats.specs.Moments.{EndsAt}
+use Rattle.node_seats.specs.declared.Moment.{Moment}
+use Rattle.node_seats.specs.Moments.{EndsAt, ArePast}
 use Rattle.node_seats.specs.declared.host.Stop.{Stop}
 use Rattle.node_seats.specs.declared.host.Stop.TheVariants.{Asked, Failed}
 use Rattle.node_seats.specs.Stops.{ends_alone}
-use Rattle.replay.specs.Ends.{End}
+pub use Rattle.replay.specs.Ends.{End}
 use Rattle.node_threads.specs.Givers.{receivers}
 use Rattle.node_threads.specs.Wires.{Wired, name_of, unused}
 use Rattle.node_threads.specs.Ends.{are_inside}
@@ -53,6 +54,13 @@ pub record AllPast (ws : List Wired) (ends : List End) (pasts : List Known) : Ty
   pub as_many : length pasts ≡ length ws
   pub each : (i : ℕ) (w : Wired) (e : End) (p : Known) → i < length ws
       → IsPastOf (name_of (slice_index_or ws i w)) (slice_index_or ws i w).inbox.book (slice_index_or ends i e) (slice_index_or pasts i p)
+
+-- these are moments of the loop of this node that left one of these ends
+pub record AreOfAnEnd (name : ℕ) (ends : List End) (moments : List Moment) : Type 0 where
+  pub end : End
+  pub among : Contains ends end
+  pub left : IsLeftBy name end
+  pub past : ArePast moments left.loop
 
 -- of these ends one is this node's, the last turn of whose thread failed where the node hadn't left
 pub record FailsAlone (ends : List End) (a : ℕ) : Type 0 where

@@ -1,5 +1,8 @@
+pub use Rattle.node_loop.specs.Held
 pub use Rattle.node_loop.specs.Openings
 pub use Rattle.replay.specs.Consistent
+pub use Rattle.node_seats.specs.Books
+pub use Rattle.node_seats.specs.Moments
 pub use Rattle.node_seats.specs.Addresses
 pub use Rattle.node_seats.specs.Publishing
 pub use Rattle.node_seats.specs.Lines

@@ -9,12 +9,13 @@ use Rattle.server.specs.declared.faults.ServeFault.{ServeFault}
 use Rattle.server.specs.declared.faults.ServeFault.TheVariants.{Accept, Write, Memory}
 use Rattle.server.specs.declared.faults.TakeFault.{TakeFault}
 use Rattle.server.specs.declared.served.Left.{Left}
-use Rattle.server.specs.Served.{IsServed, transcripts_in}
+use Rattle.server.specs.Served.{IsServed, transcripts_in, witnesses_in}
 use Rattle.server.specs.Serving.{Ending, Ends, Tells, Fails, EndsWith, ServesCluster}
 use Rattle.server.proofs.Doors.{seats_keep}
 
 module _ (cluster lone nodes : List ℕ) (consoles : ℕ) (all : (n : ℕ) → set_of nodes n ≡ set_of (cluster ++ lone) n) (first last : Crewed) (joined : first.cluster ≡ cluster) (others : first.lone ≡ lone) (crew : IsCrew cluster lone first.crew) (unused : first.seating ≡ no_seats) where
-  ends_with : (ls : List Left) → IsServed nodes consoles first last ls → (ending : Ending) → Ends last (transcripts_in ls) ending
+  ends_with : (ls : List Left) → IsServed nodes consoles first last ls → (ending : Ending)
+      → Ends last (transcripts_in ls) (witnesses_in ls) ending
       → EndsWith cluster lone consoles ending
   ends_with ls served ending ends = record {
     nodes = nodes;
@@ -34,7 +35,7 @@ module _ (cluster lone nodes : List ℕ) (consoles : ℕ) (all : (n : ℕ) → s
 
   module _ (old new : Option (List ℕ)) where
     where_served : (ls : List Left) → IsServed nodes consoles first last ls → (r : Result Bool ServeFault)
-        → Tells last (transcripts_in ls) old new r → ServesCluster cluster lone consoles old new r
+        → Tells last (transcripts_in ls) (witnesses_in ls) old new r → ServesCluster cluster lone consoles old new r
     where_served ls served (Ok good) t = (t.0, ends_with ls served t.0 t.1, t.2, t.3)
     where_served ls served (Err Write) t = (t.0, ends_with ls served t.0 t.1, t.2)
     where_served ls served (Err Accept) t = t
@@ -48,7 +49,7 @@ module _ (cluster lone nodes : List ℕ) (consoles : ℕ) (all : (n : ℕ) → s
 
     pub serves : {V : Type 0} (items : V → List Left) (served : Result V TakeFault)
         → IfOk served (λ v. IsServed nodes consoles first last (items v)) → (r : Result Bool ServeFault)
-        → MatchResult served (λ v. Tells last (transcripts_in (items v)) old new r) (λ _. Fails old new r)
+        → MatchResult served (λ v. Tells last (transcripts_in (items v)) (witnesses_in (items v)) old new r) (λ _. Fails old new r)
         → ServesCluster cluster lone consoles old new r
     serves items (Ok v) is r t = where_served (items v) is r t
     serves items (Err fault) is r t = where_failed r t

@@ -3,6 +3,8 @@ mod Leaving
 mod Doors
 mod Joining
 mod Closing
+mod Covering
+mod Witnessing
 mod GivingOut
 mod Posting
 mod Lending

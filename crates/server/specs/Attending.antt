@@ -1,7 +1,6 @@
 -- One console, from its greeting to its end.
 use Rattle.std.specs.Prelude.{ℕ, true, false, ◌≡◌, ◌⊎◌, is_some, IfOk, List, Option, Some, None, Result, Ok, Err}
 use Rattle.term.specs.NodeSets.{set_of}
-use Rattle.node_threads.specs.declared.Transcript.{Transcript}
 use Rattle.node_threads.specs.Seats.{Sitting, first_at}
 use Rattle.node_threads.specs.declared.SeatFault.{SeatFault}
 use Rattle.console.specs.Printing.{error_line}
@@ -11,7 +10,7 @@ use Rattle.text_lines.specs.declared.faults.StreamFault.{StreamFault}
 use Rattle.console.specs.Consoles.{Serves, Stops}
 use Rattle.console.specs.Greetings.{Greets, GreetStops}
 use Rattle.console.specs.Outcomes.{seat_word}
-use Rattle.console.specs.Seats.{SeatAnswers, SeatStands, IsTranscript}
+use Rattle.console.specs.Seats.{GoesOn, SeatAnswers, SeatStands, IsTranscript}
 use Rattle.server.specs.declared.served.Left.{Left}
 use Rattle.server.specs.declared.served.Left.TheVariants.{Served, Unserved}
 
@@ -28,13 +27,23 @@ abbrev pub Talks : Option (List ℕ) → Option (List ℕ) → Option (List ℕ)
 Talks input rest old new s t =
     Serves SeatAnswers SeatStands false MOST_LINES input rest old new s t ⊎ ((f : StreamFault) × Stops SeatAnswers SeatStands false MOST_LINES input rest old new s t f)
 
--- it was served at its seat at this node, and this is the transcript
-pub record IsSeated (node : ℕ) (input rest old new : Option (List ℕ)) (free : List Sitting) (transcript : Transcript) : Type 0 where
+-- this is left of the seat: its transcript, and the moments of its node that it knew
+abbrev pub IsLeftOf : Sitting → Left → Type 0
+IsLeftOf s (Served transcript token) = IsTranscript s transcript × (token.book ≡ s.seen.known.book) × (token.log ≡ s.seen.known.log)
+IsLeftOf s (Unserved place) = ⊥
+
+-- a console was served from this seat, and this is left of that
+pub record LeavesSeat (input rest old new : Option (List ℕ)) (seat : Sitting) (left : Left) : Type 0 where
+  pub last : Sitting
+  pub talks : Talks input rest old new seat last
+  pub own : GoesOn seat last
+  pub kept : IsLeftOf last left
+
+-- it was served from its seat at this node
+pub record IsSeated (node : ℕ) (input rest old new : Option (List ℕ)) (free : List Sitting) (left : Left) : Type 0 where
   pub seat : Sitting
-  pub left : Sitting
   pub at : first_at node free ≡ Some seat
-  pub talks : Talks input rest old new seat left
-  pub kept : IsTranscript left transcript
+  pub leaves : LeavesSeat input rest old new seat left
 
 -- it has no seat, and was told why, or a part of that; nothing more was read
 pub record IsUnseated (input rest old new : Option (List ℕ)) (fault : SeatFault) : Type 0 where
@@ -43,7 +52,7 @@ pub record IsUnseated (input rest old new : Option (List ℕ)) (fault : SeatFaul
 
 -- it was attached to this node, and this is left of it: a console that has a seat is served there
 abbrev pub Sits : ℕ → Option (List ℕ) → Option (List ℕ) → Option (List ℕ) → Option (List ℕ) → Place → Left → Type 0
-Sits node input rest old new (Ok free) (Served transcript) = IsSeated node input rest old new free transcript
+Sits node input rest old new (Ok free) (Served transcript token) = IsSeated node input rest old new free (Served transcript token)
 Sits node input rest old new (Err fault) (Unserved place) = (place ≡ Err fault) × IsUnseated input rest old new fault
 Sits node input rest old new _ _ = ⊥
 

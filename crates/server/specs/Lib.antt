@@ -5,6 +5,7 @@ pub mod Faults
 pub mod Attending
 pub mod Ending
 pub mod Served
+pub mod Covering
 pub mod Taking
 pub mod Serving
 pub mod Staying

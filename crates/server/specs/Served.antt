@@ -6,20 +6,21 @@ use Rattle.node_threads.specs.Seating.{are_spent}
 use Rattle.node_threads.specs.Clusters.{Crewed, next_seats, seats_more}
 use Rattle.server.specs.declared.served.Start.{Start}
 use Rattle.server.specs.declared.served.Left.{Left}
+use Rattle.server.specs.declared.served.Witness.{Witness}
 use Rattle.server.specs.declared.served.Left.TheVariants as left
 use Rattle.server.specs.Attending.{Place, Attends}
 
--- some console of a cluster of these nodes got such a seat and left this transcript of it
-pub record IsAttended (nodes : List ℕ) (place : Place) (transcript : Transcript) : Type 0 where
+-- some console of a cluster of these nodes got such a seat and left this of it
+pub record IsAttended (nodes : List ℕ) (place : Place) (left : Left) : Type 0 where
   pub input : Option (List ℕ)
   pub rest : Option (List ℕ)
   pub old : Option (List ℕ)
   pub new : Option (List ℕ)
-  pub attends : Attends nodes input rest old new place (left.Served transcript)
+  pub attends : Attends nodes input rest old new place left
 
--- what a console leaves behind that began so: a transcript, or its seat, where it asked for nothing
+-- what a console leaves behind that began so: what is left of its seat, or that itself, where it asked for nothing
 abbrev pub LeavesBehind : Start → Left → Type 0
-LeavesBehind s (left.Served transcript) = IsAttended s.nodes s.place transcript
+LeavesBehind s (left.Served transcript token) = IsAttended s.nodes s.place (left.Served transcript token)
 LeavesBehind s (left.Unserved place) = place ≡ s.place
 
 -- so do all of these, in their order
@@ -31,8 +32,14 @@ AllLeave _ _ = ⊥
 -- the transcripts among these
 abbrev pub transcripts_in : List Left → List Transcript
 transcripts_in [] = []
-transcripts_in (left.Served transcript ∷ ls) = transcript ∷ transcripts_in ls
+transcripts_in (left.Served transcript token ∷ ls) = transcript ∷ transcripts_in ls
 transcripts_in (left.Unserved place ∷ ls) = transcripts_in ls
+
+-- what the seats of those that had one knew of their nodes
+abbrev pub witnesses_in : List Left → List Witness
+witnesses_in [] = []
+witnesses_in (left.Served transcript token ∷ ls) = record { node = transcript.node; token = token } ∷ witnesses_in ls
+witnesses_in (left.Unserved place ∷ ls) = witnesses_in ls
 
 -- a cluster gave out a seat, the next one, or it had none to give, for this cause
 abbrev pub Seats : Crewed → Place → Crewed → Type 0

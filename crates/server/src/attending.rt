@@ -1,42 +1,33 @@
 //! One console: its greeting, its seat and its lines.
-ghost use Rattle.std.specs.Prelude.{◌≡◌, true, is_some, IfOk, MatchResult};
+ghost use Rattle.std.specs.Prelude.{◌≡◌, true, is_some, IfOk};
 ghost use Rattle.std.specs.Io.Buffered.{reader_remaining};
-ghost use Rattle.server.specs.Attending.{Attends, Reaches, Sits, Talks};
-ghost use Rattle.console.specs.Seats.{IsTranscript};
-ghost use Rattle.node_threads.specs.Seats.{Sitting, first_at};
+ghost use Rattle.server.specs.Attending.{Attends, LeavesSeat, Reaches, Sits};
+ghost use Rattle.node_threads.specs.Seats.{first_at};
 
 use crate::served::{Left, Place};
-use console::{ConsoleFault, greet, refuse_seat, serve};
-use node_threads::{Seat, Transcript};
+use console::{greet, refuse_seat, serve_from};
+use node_threads::Seat;
 use std::alloc::Global;
 use std::io::{BufReader, Read, Write};
 use std::sync::Wait;
 use std::time::Clock;
 use term::{NodeName, NodeSet};
 
-/// The transcript of a console that has ended, well or with a fault.
-fn transcript_of(ended: Result<Transcript, (ConsoleFault, Transcript)>) -> Transcript
-    ensures { MatchResult ended (λ transcript. result ≡ transcript) (λ faulty. result ≡ faulty.1) }
-{
-    match ended {
-        Ok(transcript) => transcript,
-        Err((_, transcript)) => transcript,
-    }
-}
-
-/// Serves a console at its seat, and keeps the transcript, also after a fault.
+/// Serves a console at its seat, and keeps the seat's transcript and what it knew of its node, also after a fault.
 fn serve_at<H: Wait + Clock, R: Read, W: Write>(
     rt: &H,
     alloc: Global,
     reader: &mut BufReader<R, Global>,
     writer: &mut W,
-    seat: Seat,
-) -> Transcript
-    ensures { (left : Sitting) × IsTranscript left result
-        × Talks (reader_remaining R.remaining reader.old) (reader_remaining R.remaining reader.new)
-        (W.contents writer.old) (W.contents writer.new) seat left }
+    mut seat: Seat,
+) -> Left
+    ensures { LeavesSeat (reader_remaining R.remaining reader.old) (reader_remaining R.remaining reader.new)
+        (W.contents writer.old) (W.contents writer.new) seat result }
 {
-    transcript_of(serve(rt, alloc, reader, writer, seat))
+    // The console has ended, however it did.
+    let _ = serve_from(rt, alloc, reader, writer, &mut seat);
+    let token = seat.token();
+    Left::Served(seat.into_transcript(), token)
 }
 
 /// Serves a console at the node that it named, or tells it why it gets no seat there.
@@ -54,7 +45,7 @@ fn attend_at<H: Wait + Clock, R: Read, W: Write>(
 {
     match place {
         Ok(free) => match free.at(alloc, node) {
-            Ok(seat) => Left::Served(serve_at(rt, alloc, reader, writer, seat)),
+            Ok(seat) => serve_at(rt, alloc, reader, writer, seat),
             Err(free) => Left::Unserved(Ok(free)),
         },
         Err(fault) => {

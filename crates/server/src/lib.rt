@@ -2,6 +2,7 @@
 #![tactic(auto)]
 
 mod attending;
+mod covering;
 mod ending;
 mod entry;
 mod faults;

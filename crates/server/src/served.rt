@@ -1,12 +1,12 @@
 //! What consoles begin with, and what they leave behind.
 ghost use Rattle.std.specs.Prelude.{◌≡◌, ◌++◌, ◌∷◌, [], IfOk, OnOk};
-ghost use Rattle.server.specs.Served.{transcripts_in};
+ghost use Rattle.server.specs.Served.{transcripts_in, witnesses_in};
 
-use node_threads::{FreeSeat, SeatFault, Transcript};
+use node_threads::{FreeSeat, SeatFault, Token, Transcript};
 use std::alloc::{AllocError, Global};
 use std::snapshot::Snapshot;
 use std::thread::Promise;
-use term::NodeSet;
+use term::{Node, NodeSet};
 
 /// The seat that a console has, or why it has none.
 pub(crate) type Place = Result<FreeSeat, SeatFault>;
@@ -21,8 +21,8 @@ pub(crate) struct Start {
 /// What a console leaves behind.
 #[derive(Drop)]
 pub(crate) enum Left {
-    /// The transcript of its seat.
-    Served(Transcript),
+    /// The transcript of its seat, and the moments of its node that the seat knew.
+    Served(Transcript, Token),
     /// Its seat, from which nothing was asked, or why it had none.
     Unserved(Place),
 }
@@ -37,23 +37,54 @@ impl Promise<Left> for LeftBehind {
     ghost kept_by = { λ promise left. LeavesBehind promise.0.value left };
 }
 
-/// Puts the transcript that a console left, if it left one, behind these.
-fn keep(left: Left, transcripts: &mut Vec<Transcript>) -> Result<(), AllocError>
-    ensures { OnOk result (transcripts.new.items ≡ transcripts.old.items ++ transcripts_in (left ∷ [])) }
-{
-    if let Left::Served(transcript) = left {
-        transcripts.push(transcript)?;
-    }
-    Ok(())
+/// The moments that the seat of a console knew of its node when it was left.
+#[derive(Drop)]
+pub(crate) struct Witness {
+    pub(crate) node: Node,
+    pub(crate) token: Token,
 }
 
-/// The transcripts among what consoles left behind, in their order.
-pub(crate) fn transcripts_of(alloc: Global, lefts: Vec<Left>) -> Result<Vec<Transcript>, AllocError>
-    ensures { IfOk result (λ transcripts. transcripts.items ≡ transcripts_in lefts.items) }
-{
-    let mut transcripts = Vec::new(alloc);
-    for left in lefts {
-        keep(left, &mut transcripts)?;
+/// What consoles left of their seats, each in its turn: the transcripts, and the moments that these knew.
+#[derive(Drop)]
+pub(crate) struct Legacy {
+    pub(crate) transcripts: Vec<Transcript>,
+    pub(crate) witnesses: Vec<Witness>,
+}
+
+impl Legacy {
+    /// That of no console.
+    fn new(alloc: Global) -> Self
+        ensures transcripts { result.transcripts.items ≡ [] }
+        ensures witnesses { result.witnesses.items ≡ [] }
+    {
+        Legacy {
+            transcripts: Vec::new(alloc),
+            witnesses: Vec::new(alloc),
+        }
     }
-    Ok(transcripts)
+
+    /// Puts what a console left of its seat, if it had one, behind the others.
+    fn keep(&mut self, left: Left) -> Result<(), AllocError>
+        ensures transcripts { OnOk result (self.new.transcripts.items ≡ self.old.transcripts.items ++ transcripts_in (left ∷ [])) }
+        ensures witnesses { OnOk result (self.new.witnesses.items ≡ self.old.witnesses.items ++ witnesses_in (left ∷ [])) }
+    {
+        if let Left::Served(transcript, token) = left {
+            let node = transcript.node.copy();
+            self.witnesses.push(Witness { node, token })?;
+            self.transcripts.push(transcript)?;
+        }
+        Ok(())
+    }
+}
+
+/// What these consoles left of their seats, in their order.
+pub(crate) fn legacy_of(alloc: Global, lefts: Vec<Left>) -> Result<Legacy, AllocError>
+    ensures transcripts { IfOk result (λ legacy. legacy.transcripts.items ≡ transcripts_in lefts.items) }
+    ensures witnesses { IfOk result (λ legacy. legacy.witnesses.items ≡ witnesses_in lefts.items) }
+{
+    let mut legacy = Legacy::new(alloc);
+    for left in lefts {
+        legacy.keep(left)?;
+    }
+    Ok(legacy)
 }

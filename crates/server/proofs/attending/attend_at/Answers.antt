@@ -6,10 +6,8 @@ use Rattle.server.proofs.attending.attend_at.Goals as goal
 pub returns-in-Ok-at : goal.returns-in-Ok-at
 returns-in-Ok-at g c = sits_served c.args.node.now _ _ _ _ c.args.place c.in-Ok.free c.serve_at.result c.in-Ok.is (record {
   seat = c.in-Ok-at.seat;
-  left = c.serve_at.ensures.0;
   at = c.in-Ok-at.ensures.ok;
-  talks = c.serve_at.ensures.2;
-  kept = c.serve_at.ensures.1;
+  leaves = c.serve_at.ensures;
 })
 
 pub returns-in-Err : goal.returns-in-Err

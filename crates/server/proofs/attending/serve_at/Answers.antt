@@ -1,5 +1,15 @@
+use Rattle.std.proofs.Common.{refl}
 use Rattle.server.proofs.Leaving.{talked}
 use Rattle.server.proofs.attending.serve_at.Goals as goal
 
 pub returns : goal.returns
-returns g c = talked _ _ _ _ c.args.seat c.transcript_of.result c.serve.result c.transcript_of.ensures c.serve.ensures
+returns g c = record {
+  last = c.serve_from.new.seat;
+  talks = talked _ _ _ _ c.args.seat c.serve_from.new.seat c.serve_from.result c.serve_from.ensures.served;
+  own = c.serve_from.ensures.own;
+  kept = (
+    record { seat = c.into_transcript.ensures.seat; node = c.into_transcript.ensures.node; entries = c.into_transcript.ensures.entries },
+    c.token-token.ensures.book,
+    c.token-token.ensures.log,
+  );
+}
