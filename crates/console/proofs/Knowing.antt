@@ -1,19 +1,18 @@
 -- A seat that answers is the same seat still, and knows of no fewer moments of its node.
-use Rattle.std.proofs.Common.{ℕ, Bool, ◌≡◌, ◌≤◌, Option, Some, None, Result, Ok, Err, refl, sym, ap, subst, ◌∙◌, inl, inr, arith}
-use Rattle.std.specs.Prelude.{◌⊎◌}
+use Rattle.std.proofs.Common.{ℕ, Bool, ◌≡◌, Option, Result, Ok, Err, refl, sym, ap, subst, ◌∙◌, inl, inr, arith}
 use Rattle.command_lines.specs.declared.Reply.{Reply}
 use Rattle.command_lines.specs.declared.Event.{Event}
 use Rattle.command_lines.specs.declared.Event.TheVariants as event
-use Rattle.node_books.proofs.Beginnings.{prefix_trans}
+use base.Growing.{prefix_trans}
 use Rattle.registry_model.specs.Process.{Process, Text}
 use Rattle.node_seats.specs.declared.fault.SeatFault.{SeatFault}
 use Rattle.node_seats.specs.declared.fault.SeatFault.TheVariants as fault
-use Rattle.shared_table.specs.Readers.{Seen, Reads}
-use Rattle.node_seats.specs.Callers.{Learns, LearnsMore}
-use Rattle.node_seats.specs.Seats.{Sitting, IsRefused, IsToldFault, KeepsNoList, LooksUp, Looked, Unanswered, Answered, Done}
+use Rattle.node_seats.specs.Readers.{Seen, Reads}
+use Rattle.node_seats.specs.Callers.{Learns}
+use Rattle.node_seats.specs.Seats.{Sitting, IsRefused, IsToldFault, LooksUp, Looked, Unanswered}
 use Rattle.console.specs.declared.orders.Order.{Order}
 use Rattle.console.specs.declared.orders.Order.TheVariants.{Call, Whereis, Exit, Leave, Wait}
-use Rattle.console.specs.Seats.{GoesOn, SeatAnswers, SeatGives}
+use Rattle.console.specs.Seats.{GoesOn, SeatAnswers}
 
 pub goes_nowhere : (s : Sitting) → GoesOn s s
 goes_nowhere s = record { node = refl; learns = inl refl }
@@ -69,7 +68,6 @@ uncopied (event.Call call) s t (inr K) = record { node = ap (λ (y : Sitting). y
 uncopied (event.Exit p) s t (inr K) = absurd K
 uncopied event.Leave s t (inr K) = absurd K
 uncopied event.Retry s t (inr K) = absurd K
-uncopied (event.FromPeer node letter) s t (inr K) = absurd K
 
 unanswered : (f : SeatFault) (e : Event) (s t : Sitting) → Unanswered f e s t → GoesOn s t
 unanswered fault.Memory e s t h = uncopied e s t h

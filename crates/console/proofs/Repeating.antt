@@ -1,5 +1,5 @@
 -- Things that are done again and again.
-use Rattle.std.proofs.Common.{ℕ, zero, suc, ◌≡◌, refl, subst}
+use Rattle.std.proofs.Common.{ℕ, zero, suc, refl, subst}
 use Rattle.node_seats.specs.Knowing.{Known}
 use Rattle.console.specs.Lent.{Repeats}
 

@@ -1,5 +1,5 @@
 -- How a lock is tried for.
-use Rattle.std.specs.Prelude.{ℕ, zero, suc, Bool, true, false, ◌≡◌, ◌+◌, ⊤, Result, Ok, Err}
+use Rattle.std.specs.Prelude.{ℕ, Bool, true, false, ◌≡◌, ◌+◌, ⊤, Result, Ok, Err}
 use Rattle.command_lines.specs.declared.Call.{Call}
 use Rattle.command_lines.specs.declared.Call.TheVariants.{SetLock}
 use Rattle.command_lines.specs.declared.Reply.{Reply}
