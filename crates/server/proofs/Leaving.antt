@@ -27,14 +27,14 @@ module _ (s : Start) (input rest old new : Option (List ℕ)) where
   unserved node unread written (Err fault) back sits = sits.0
 
   pub leaves : (l : Left) → Attends s.nodes input rest old new s.place l → LeavesBehind s l
-  leaves (Served transcript token) a = record { input = input; rest = rest; old = old; new = new; attends = a }
+  leaves (Served transcript witness) a = record { input = input; rest = rest; old = old; new = new; attends = a }
   leaves (Unserved back) (inl a) = unserved a.node a.unread a.written s.place back a.sits
   leaves (Unserved back) (inr a) = cc a.back
 
 -- a console that was attached, by what is known of its place
 module _ (node : ℕ) (input rest old new : Option (List ℕ)) (p : Place) where
   sits_so : (free : List Sitting) (l : Left) → IsSeated node input rest old new free l → Sits node input rest old new (Ok free) l
-  sits_so free (Served transcript token) seated = seated
+  sits_so free (Served transcript witness) seated = seated
   sits_so free (Unserved back) seated = absurd seated.leaves.kept
 
   pub sits_served : (free : List Sitting) (l : Left) → p ≡ Ok free → IsSeated node input rest old new free l

@@ -3,7 +3,8 @@ mod Leaving
 mod Doors
 mod Joining
 mod Closing
-mod Covering
+mod Covered
+mod Placing
 mod Witnessing
 mod GivingOut
 mod Posting

@@ -29,7 +29,8 @@ Talks input rest old new s t =
 
 -- this is left of the seat: its transcript, and the moments of its node that it knew
 abbrev pub IsLeftOf : Sitting → Left → Type 0
-IsLeftOf s (Served transcript token) = IsTranscript s transcript × (token.book ≡ s.seen.known.book) × (token.log ≡ s.seen.known.log)
+IsLeftOf s (Served transcript witness) = IsTranscript s transcript × (witness.node ≡ s.node)
+    × (witness.token.book ≡ s.seen.known.book) × (witness.token.log ≡ s.seen.known.log)
 IsLeftOf s (Unserved place) = ⊥
 
 -- a console was served from this seat, and this is left of that
@@ -52,7 +53,7 @@ pub record IsUnseated (input rest old new : Option (List ℕ)) (fault : SeatFaul
 
 -- it was attached to this node, and this is left of it: a console that has a seat is served there
 abbrev pub Sits : ℕ → Option (List ℕ) → Option (List ℕ) → Option (List ℕ) → Option (List ℕ) → Place → Left → Type 0
-Sits node input rest old new (Ok free) (Served transcript token) = IsSeated node input rest old new free (Served transcript token)
+Sits node input rest old new (Ok free) (Served transcript witness) = IsSeated node input rest old new free (Served transcript witness)
 Sits node input rest old new (Err fault) (Unserved place) = (place ≡ Err fault) × IsUnseated input rest old new fault
 Sits node input rest old new _ _ = ⊥
 

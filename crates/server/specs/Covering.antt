@@ -36,4 +36,4 @@ pub record IsOfCrew (crew : List Wired) (w : Witness) : Type 0 where
 -- A cluster closed so, with these transcripts. Where it did, what these seats knew are moments of the loops whose ends were replayed
 abbrev pub ClosesOver : Crewed → List Transcript → List Witness → Result (Closed Table Global) CloseFault → Type 0
 ClosesOver c ts ws (Ok closed) = (closes : Closes c.cluster c.lone c.crew ts (Ok closed)) × All (λ w. AreOfAnEnd w.node closes.ends w.token.log) ws
-ClosesOver c ts ws (Err fault) = CloseIs c.cluster c.lone c.crew ts (Err fault)
+ClosesOver c ts ws (Err fault) = CloseIs {N = Table} {M = Global} c.cluster c.lone c.crew ts (Err fault)

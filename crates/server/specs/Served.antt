@@ -20,7 +20,7 @@ pub record IsAttended (nodes : List ℕ) (place : Place) (left : Left) : Type 0 
 
 -- what a console leaves behind that began so: what is left of its seat, or that itself, where it asked for nothing
 abbrev pub LeavesBehind : Start → Left → Type 0
-LeavesBehind s (left.Served transcript token) = IsAttended s.nodes s.place (left.Served transcript token)
+LeavesBehind s (left.Served transcript witness) = IsAttended s.nodes s.place (left.Served transcript witness)
 LeavesBehind s (left.Unserved place) = place ≡ s.place
 
 -- so do all of these, in their order
@@ -32,13 +32,13 @@ AllLeave _ _ = ⊥
 -- the transcripts among these
 abbrev pub transcripts_in : List Left → List Transcript
 transcripts_in [] = []
-transcripts_in (left.Served transcript token ∷ ls) = transcript ∷ transcripts_in ls
+transcripts_in (left.Served transcript witness ∷ ls) = transcript ∷ transcripts_in ls
 transcripts_in (left.Unserved place ∷ ls) = transcripts_in ls
 
 -- what the seats of those that had one knew of their nodes
 abbrev pub witnesses_in : List Left → List Witness
 witnesses_in [] = []
-witnesses_in (left.Served transcript token ∷ ls) = record { node = transcript.node; token = token } ∷ witnesses_in ls
+witnesses_in (left.Served transcript witness ∷ ls) = witness ∷ witnesses_in ls
 witnesses_in (left.Unserved place ∷ ls) = witnesses_in ls
 
 -- a cluster gave out a seat, the next one, or it had none to give, for this cause

@@ -1,5 +1,5 @@
 -- What serving a cluster comes to that stays until a console asks for its end.
-use Rattle.std.specs.Prelude.{ℕ, zero, suc, Bool, ◌≡◌, ◌==◌, ◌+◌, ◌/◌, ◌⊎◌, if◌then◌else◌, min, is_ok, All, length, List, [], ◌∷◌, ◌++◌, codes, Option, Some, None, Result, Ok, Err}
+use Rattle.std.specs.Prelude.{ℕ, zero, suc, Bool, ◌≡◌, ◌==◌, ◌+◌, ◌/◌, ◌⊎◌, if◌then◌else◌, min, is_ok, All, length, List, ◌++◌, codes, Option, Result, Ok, Err}
 use Rattle.std.specs.Global.{Global}
 use Rattle.std.specs.declared.thread.PromisedHandle.{PromisedHandle}
 use Rattle.std.specs.Io.KnownBytes.{Appends, Keeps}

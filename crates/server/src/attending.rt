@@ -4,7 +4,7 @@ ghost use Rattle.std.specs.Io.Buffered.{reader_remaining};
 ghost use Rattle.server.specs.Attending.{Attends, LeavesSeat, Reaches, Sits};
 ghost use Rattle.node_threads.specs.Seats.{first_at};
 
-use crate::served::{Left, Place};
+use crate::served::{Left, Place, Witness};
 use console::{greet, refuse_seat, serve_from};
 use node_threads::Seat;
 use std::alloc::Global;
@@ -26,8 +26,11 @@ fn serve_at<H: Wait + Clock, R: Read, W: Write>(
 {
     // The console has ended, however it did.
     let _ = serve_from(rt, alloc, reader, writer, &mut seat);
-    let token = seat.token();
-    Left::Served(seat.into_transcript(), token)
+    let witness = Witness {
+        node: seat.node().copy(),
+        token: seat.token(),
+    };
+    Left::Served(seat.into_transcript(), witness)
 }
 
 /// Serves a console at the node that it named, or tells it why it gets no seat there.

@@ -7,14 +7,24 @@ use crate::served::Witness;
 use node_threads::Past;
 use term::{Node, NodeName};
 
+/// The index of a node among these.
+fn place_of(names: &[NodeName], node: &Node) -> Option<usize>
+    ensures { result ≡ position (λ name. name == node.now) names.now }
+{
+    names.iter().position(|name| node.is_first_of(name))
+}
+
 /// The index of a node among those of a cluster.
 fn index_of(cluster: &[NodeName], lone: &[NodeName], node: &Node) -> Option<usize>
     ensures { result ≡ position (λ name. name == node.now) (cluster.now ++ lone.now) }
 {
-    cluster
-        .iter()
-        .chain(lone)
-        .position(|name| node.is_first_of(name))
+    match place_of(cluster, node) {
+        Some(index) => Some(index),
+        None => {
+            let index = place_of(lone, node)?;
+            Some(cluster.len() + index)
+        }
+    }
 }
 
 /// Holds what a seat knew against the book of its node.

@@ -18,11 +18,18 @@ pub(crate) struct Start {
     pub(crate) place: Place,
 }
 
+/// The moments that the seat of a console knew of its node when it was left.
+#[derive(Drop)]
+pub(crate) struct Witness {
+    pub(crate) node: Node,
+    pub(crate) token: Token,
+}
+
 /// What a console leaves behind.
 #[derive(Drop)]
 pub(crate) enum Left {
-    /// The transcript of its seat, and the moments of its node that the seat knew.
-    Served(Transcript, Token),
+    /// The transcript of its seat, and what the seat knew of its node.
+    Served(Transcript, Witness),
     /// Its seat, from which nothing was asked, or why it had none.
     Unserved(Place),
 }
@@ -35,13 +42,6 @@ impl Promise<Left> for LeftBehind {
     ghost use Rattle.server.specs.Served.{LeavesBehind};
 
     ghost kept_by = { λ promise left. LeavesBehind promise.0.value left };
-}
-
-/// The moments that the seat of a console knew of its node when it was left.
-#[derive(Drop)]
-pub(crate) struct Witness {
-    pub(crate) node: Node,
-    pub(crate) token: Token,
 }
 
 /// What consoles left of their seats, each in its turn: the transcripts, and the moments that these knew.
@@ -63,17 +63,25 @@ impl Legacy {
         }
     }
 
-    /// Puts what a console left of its seat, if it had one, behind the others.
-    fn keep(&mut self, left: Left) -> Result<(), AllocError>
-        ensures transcripts { OnOk result (self.new.transcripts.items ≡ self.old.transcripts.items ++ transcripts_in (left ∷ [])) }
-        ensures witnesses { OnOk result (self.new.witnesses.items ≡ self.old.witnesses.items ++ witnesses_in (left ∷ [])) }
+    /// Puts what is left of a seat behind the others.
+    fn put(&mut self, transcript: Transcript, witness: Witness) -> Result<(), AllocError>
+        ensures transcripts { OnOk result (self.new.transcripts.items ≡ self.old.transcripts.items ++ transcript ∷ []) }
+        ensures witnesses { OnOk result (self.new.witnesses.items ≡ self.old.witnesses.items ++ witness ∷ []) }
     {
-        if let Left::Served(transcript, token) = left {
-            let node = transcript.node.copy();
-            self.witnesses.push(Witness { node, token })?;
-            self.transcripts.push(transcript)?;
-        }
+        self.transcripts.push(transcript)?;
+        self.witnesses.push(witness)?;
         Ok(())
+    }
+}
+
+/// Puts what a console left of its seat, if it had one, behind the others.
+fn keep(left: Left, legacy: &mut Legacy) -> Result<(), AllocError>
+    ensures transcripts { OnOk result (legacy.new.transcripts.items ≡ legacy.old.transcripts.items ++ transcripts_in (left ∷ [])) }
+    ensures witnesses { OnOk result (legacy.new.witnesses.items ≡ legacy.old.witnesses.items ++ witnesses_in (left ∷ [])) }
+{
+    match left {
+        Left::Served(transcript, witness) => legacy.put(transcript, witness),
+        Left::Unserved(_) => Ok(()),
     }
 }
 
@@ -84,7 +92,7 @@ pub(crate) fn legacy_of(alloc: Global, lefts: Vec<Left>) -> Result<Legacy, Alloc
 {
     let mut legacy = Legacy::new(alloc);
     for left in lefts {
-        legacy.keep(left)?;
+        keep(left, &mut legacy)?;
     }
     Ok(legacy)
 }

@@ -111,7 +111,7 @@ fn close<R, W>(
 where
     R: Threads,
     W: Write,
-    requires crew { IsCrew cluster.now lone.now running.crew }
+    requires crew { IfOk served (λ _. IsCrew cluster.now lone.now running.crew) }
     requires books { IfOk served (λ lefts. All (IsOfCrew running.crew) (witnesses_in lefts.items)) }
     ensures { MatchResult served
         (λ lefts. Tells running (transcripts_in lefts.items) (witnesses_in lefts.items) (W.contents writer.old) (W.contents writer.new) result)

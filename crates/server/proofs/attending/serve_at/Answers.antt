@@ -1,4 +1,4 @@
-use Rattle.std.proofs.Common.{refl}
+use Rattle.std.proofs.Common.{◌∙◌}
 use Rattle.server.proofs.Leaving.{talked}
 use Rattle.server.proofs.attending.serve_at.Goals as goal
 
@@ -9,7 +9,8 @@ returns g c = record {
   own = c.serve_from.ensures.own;
   kept = (
     record { seat = c.into_transcript.ensures.seat; node = c.into_transcript.ensures.node; entries = c.into_transcript.ensures.entries },
-    c.token-token.ensures.book,
-    c.token-token.ensures.log,
+    c.copy.ensures ∙ c.node.ensures,
+    c.token.ensures.book,
+    c.token.ensures.log,
   );
 }

@@ -1,4 +1,4 @@
-use Rattle.std.proofs.Common.{◌≡◌, ◌++◌, ◌×◌}
+use Rattle.std.proofs.Common.{◌≡◌, ◌++◌}
 use Rattle.server.specs.Served.{transcripts_in, witnesses_in}
 use Rattle.server.proofs.served.legacy_of.Given as goal
 

@@ -1,4 +1,4 @@
-use Rattle.std.proofs.Common.{◌+◌, arith}
+use Rattle.std.proofs.Common.{arith}
 use Rattle.server.proofs.GivingOut.{gives_none, gives_both, gives_asked}
 use Rattle.server.proofs.Lending.{no_seat, one_seat_more}
 use Rattle.server.proofs.staying.seats.seats_of.Goals as goal

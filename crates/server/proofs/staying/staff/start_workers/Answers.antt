@@ -1,4 +1,4 @@
-use Rattle.std.proofs.Common.{ℕ, List, ◌+◌, subst, arith}
+use Rattle.std.proofs.Common.{ℕ, List, subst, arith}
 use Rattle.server.specs.Staying.{Starts}
 use Rattle.server.proofs.Posting.{none_started, both_started}
 use Rattle.server.proofs.staying.staff.start_workers.Goals as goal

@@ -1,5 +1,5 @@
 -- What a seat knew, beside the book of its node among those that a cluster gave back.
-use Rattle.std.proofs.Common.{ℕ, true, false, ◌==◌, ◌≡◌, ◌<◌, Option, Some, None, List, [], ◌∷◌, ◌++◌, map, length, get_or, refl, sym, ap, subst, ◌∙◌, arith}
+use Rattle.std.proofs.Common.{ℕ, ◌==◌, ◌≡◌, ◌<◌, Option, Some, None, List, [], ◌∷◌, ◌++◌, length, get_or, refl, sym, ap, subst, ◌∙◌, arith}
 use Rattle.std.specs.Prelude.{All}
 use Rattle.std.specs.List.{position}
 use Rattle.std.proofs.lemmas.List.Quantifiers.{position-Some}
@@ -13,11 +13,11 @@ use Rattle.node_threads.proofs.Choosing.{first_becomes, none_becomes}
 use Rattle.node_threads.proofs.Places.{place_mapped}
 use Rattle.server.specs.declared.served.Witness.{Witness}
 use Rattle.server.specs.Covering.{IsCovered, IsOfBook, IsOfCrew}
-use Rattle.server.proofs.Witnessing.{inbox_of_node}
+use Rattle.server.proofs.Witnessing.{inbox_of_node, of_some}
 
 -- what stands at a place stands there whatever is said for want of it
-at_itself : {X : Type 0} (xs : List X) (i : ℕ) (d : X) → i < length xs → get_or xs i d ≡ get_or xs i (get_or xs i d)
-at_itself xs i d below = cc (sym (slice_get-get_or xs i d below) ∙ slice_get-get_or xs i (get_or xs i d) below)
+pub stands_there : {X : Type 0} (xs : List X) (i : ℕ) (d e : X) → i < length xs → get_or xs i d ≡ get_or xs i e
+stands_there xs i d e below = of_some (sym (slice_get-get_or xs i d below) ∙ slice_get-get_or xs i e below)
 
 module _ (cluster lone : List ℕ) (crew : List Wired) (are : IsCrew cluster lone crew) (pasts : List Known) (w : Witness) (of : IsOfCrew crew w) where
   -- the node's place among the names is its place in the crew
@@ -29,8 +29,8 @@ module _ (cluster lone : List ℕ) (crew : List Wired) (are : IsCrew cluster lon
     below = (position-Some (λ x. name_of x == w.node) crew i d at).0
 
     inbox_there : (get_or crew i d).inbox ≡ of.inbox
-    inbox_there = cc (sym (first_becomes (λ (x : Wired). x.inbox) (λ inbox. inbox.node == w.node) crew i (get_or crew i d) at
-        (at_itself crew i d below)) ∙ of.at)
+    inbox_there = of_some (sym (first_becomes (λ (x : Wired). x.inbox) (λ inbox. inbox.node == w.node) crew i (get_or crew i d) at
+        (stands_there crew i d (get_or crew i d) below)) ∙ of.at)
 
     name_there : name_of (get_or crew i d) ≡ w.node
     name_there = ap (λ (x : Inbox). x.node) inbox_there ∙ inbox_of_node w.node (inboxes crew) of.inbox of.at
