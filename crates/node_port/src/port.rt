@@ -8,6 +8,7 @@ ghost use Rattle.node_port.specs.Asking.{last_process as last_process_of};
 ghost use Rattle.node_port.specs.Playing.{asked};
 ghost use Rattle.node_port.specs.Beginnings.{core_behind, before as any_before, fits as any_fits, is_one_of_each as any_is_one_of_each, present_of as any_present_of, world_of as any_world_of};
 ghost use Rattle.wire_end.specs.Returning.{count_left};
+ghost use Rattle.wire_end.specs.Wirings.{begun as begun_end};
 ghost use Rattle.term.specs.NodeSets.{IsNodeSet};
 ghost use Rattle.node_port.specs.Ran.{Founds, core_of, opened_so};
 ghost use Rattle.node_port.specs.Working.{stands_behind, stand_of, IsEmpty};
@@ -128,6 +129,16 @@ fn open_loop(
         stamp,
     )
 }
+
+/// The end of lines of a loop that hasn't made a step.
+fn end_of(alloc: Global, node: &PortLoop) -> Result<WireEnd, AllocError>
+    ensures { IfOk result (λ end. end ≡ begun_end node.now.log.node node.now.core.world) }
+{
+    WireEnd::new(alloc, node.node().copy(), node.world())
+}
+
+/// Gives a loop up. It is dropped here alone, so that whoever has to give one up needs no proof of all that it owns.
+fn discard(_node: PortLoop) {}
 
 /// Who has left where nothing else is said: the node before this one, if there was one.
 pub(crate) fn before(node: &Node) -> NodeSet
@@ -257,28 +268,45 @@ impl Port {
     ghost use Rattle.node_loop.specs.NodeCoreHeld.{IsNext};
     ghost use Rattle.node_loop.specs.Returning.{MayStart};
     ghost use Rattle.wire_end.specs.Starting.{is_alone};
-    ghost use Rattle.wire_end.specs.Wirings.{begun as begun_end};
     ghost use Rattle.node_port.specs.Working.{stand_of, Grows, IsEmpty, ShowsAll, GoesOn, ComesTo, Concludes, Settles, RefusesFor, PlaysAt, ShowsStill};
     ghost use Rattle.node_port.specs.declared.commands.Command.TheVariants.{Ask, Steps, Letter, Down, Started, Tick};
     ghost use Rattle.node_port.specs.declared.port.Standing.{Standing};
     ghost use Rattle.node_port.specs.declared.port.Standing.TheVariants.{Runs};
 
-    /// A loop that hasn't made a step, with its end of lines.
-    fn with_loop(alloc: Global, node: PortLoop) -> Result<Self, AllocError>
-        ensures stand { IfOk result (λ port. stand_of port ≡ record { loop = node; end = begun_end node.log.node node.core.world }) }
-        ensures empty { IfOk result (λ port. IsEmpty port.output) }
+    /// A loop with its end of lines, of which nothing is to be printed.
+    fn with_end(alloc: Global, node: PortLoop, end: WireEnd) -> Self
+        ensures stand { stand_of result ≡ record { loop = node; end = end } }
+        ensures empty { IsEmpty result.output }
     {
-        let end = WireEnd::new(alloc, node.node().copy(), node.world())?;
         let joined = node.is_joined();
         let members = node.members().copy();
-        Ok(Port {
+        Port {
             alloc,
             node,
             end,
             output: Output::new(alloc),
             joined,
             members,
-        })
+        }
+    }
+
+    /// A loop that hasn't made a step, with its end of lines.
+    fn with_loop(alloc: Global, node: PortLoop) -> Result<Self, AllocError>
+        ensures stand { IfOk result (λ port. stand_of port ≡ record { loop = node; end = begun_end node.log.node node.core.world }) }
+        ensures empty { IfOk result (λ port. IsEmpty port.output) }
+    {
+        match end_of(alloc, &node) {
+            Ok(end) => Ok(Port::with_end(alloc, node, end)),
+            Err(fault) => {
+                discard(node);
+                Err(fault)
+            }
+        }
+    }
+
+    /// Gives a node up. It is dropped here alone, as a loop is.
+    pub(crate) fn discard(self) {
+        discard(self.node);
     }
 
     /// This first node of a world, which founds its cluster, before its first step.

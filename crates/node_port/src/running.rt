@@ -134,8 +134,13 @@ fn found<W: Write>(
     ensures { HasFounded node.now world.now (W.contents writer.old) (W.contents writer.new) result }
 {
     let mut port = open_founder(alloc, node, world)?;
-    port.write(writer)?;
-    Ok((port, Standing::Runs))
+    match port.write(writer) {
+        Ok(()) => Ok((port, Standing::Runs)),
+        Err(fault) => {
+            port.discard();
+            Err(fault.into())
+        }
+    }
 }
 
 /// Opens a node of which no line says how it begins, and does its first line.
@@ -155,8 +160,13 @@ fn open_plainly<W: Write>(
     ensures empty { IfOk result (λ r. IsEmpty r.0.output) }
 {
     let mut port = Port::open(alloc, node, names, 0, &before(node))?;
-    let standing = play_line(alloc, &mut port, line, writer)?;
-    Ok((port, standing))
+    match play_line(alloc, &mut port, line, writer) {
+        Ok(standing) => Ok((port, standing)),
+        Err(fault) => {
+            port.discard();
+            Err(fault)
+        }
+    }
 }
 
 /// How a line says that this node of a world with these names begins, if it says that: the stamp above which its steps are, and who has left.
@@ -290,7 +300,9 @@ fn run_from<R: Read, W: Write>(
         (W.contents writer.old) (W.contents writer.new)) }
 {
     let (mut port, standing) = open_by(alloc, node, names, line, writer)?;
-    run_on(alloc, &mut port, standing, reader, writer)
+    let in_order = run_on(alloc, &mut port, standing, reader, writer);
+    port.discard();
+    in_order
 }
 
 /// Runs this node of a world with these names by the lines of a reader, until they end or the node has left, and writes what comes of

@@ -4,19 +4,16 @@ use Rattle.node_port.specs.Ran.{Founds, first_text}
 use Rattle.node_port.proofs.Opening.{founder_written, founder_partly, founder_stops}
 use Rattle.node_port.proofs.running.found.Goals as goal
 
-pub returns : goal.returns
-returns g c =
+pub returns-in-Ok : goal.returns-in-Ok
+returns-in-Ok g c =
     founder_written c.args.node.now c.args.world.now c.in_ok-port.port c.write.new.self (g.W.Write.contents c.args.writer.now)
-    (g.W.Write.contents c.write.new.writer) c.in_ok-port.ensures c.write.ensures.node c.write.ensures.end c.in_ok-write.ensures.empty
-    c.in_ok-write.ensures.written
+    (g.W.Write.contents c.write.new.writer) c.in_ok-port.ensures c.write.ensures.node c.write.ensures.end c.in-Ok.ensures.empty
+    c.in-Ok.ensures.written
 
-pub returns-in_err-write : goal.returns-in_err-write
-returns-in_err-write g c =
-    let p = err_from_is_err_and c.from_residual-in_err-write.result c.from_residual-in_err-write.ensures.1 in
-    founder_stops c.args.node.now c.args.world.now (g.W.Write.contents c.args.writer.now) (g.W.Write.contents c.write.new.writer)
-    c.from_residual-in_err-write.result p.0 p.1
-    (founder_partly c.args.node.now c.args.world.now c.in_ok-port.port c.write.new.self (g.W.Write.contents c.args.writer.now)
-    (g.W.Write.contents c.write.new.writer) c.in_ok-port.ensures c.in_err-write.ensures.written)
+pub returns-in-Err : goal.returns-in-Err
+returns-in-Err g c =
+    founder_partly c.args.node.now c.args.world.now c.in_ok-port.port c.write.new.self (g.W.Write.contents c.args.writer.now)
+    (g.W.Write.contents c.write.new.writer) c.in_ok-port.ensures c.in-Err.ensures.written
 
 pub returns-in_err-port : goal.returns-in_err-port
 returns-in_err-port g c =

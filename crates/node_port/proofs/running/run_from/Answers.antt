@@ -8,9 +8,9 @@ use Rattle.node_port.proofs.running.run_from.Goals as goal
 pub returns : goal.returns
 returns g c = λ bytes k.
     from_opened c.args.node.now c.args.names.now bytes (reader_remaining g.R.Read.remaining c.args.reader.now)
-    (reader_remaining g.R.Read.remaining c.run_on.new.reader) (g.W.Write.contents c.args.writer.now) (g.W.Write.contents c.run_on.new.writer)
-    c.in_ok-port.standing (stand_of c.in_ok-port.port) (stand_of c.run_on.new.port) (g.W.Write.contents c.open_by.new.writer) c.run_on.result
-    (c.in_ok-port.ensures.opened bytes k) c.run_on.ensures
+    (reader_remaining g.R.Read.remaining c.run_on-in_order.new.reader) (g.W.Write.contents c.args.writer.now) (g.W.Write.contents c.run_on-in_order.new.writer)
+    c.in_ok-port.standing (stand_of c.in_ok-port.port) (stand_of c.run_on-in_order.new.port) (g.W.Write.contents c.open_by.new.writer) c.run_on-in_order.result
+    (c.in_ok-port.ensures.opened bytes k) c.run_on-in_order.ensures
 
 pub returns-in_err-port : goal.returns-in_err-port
 returns-in_err-port g c = λ bytes k.
