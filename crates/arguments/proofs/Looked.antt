@@ -27,7 +27,7 @@ use Rattle.arguments.specs.Reading.{Asks, AsksIn, HasArguments, HasOptions, IsFl
 use Rattle.arguments.specs.CommandLine.{Entered}
 use Rattle.arguments.specs.declared.faults.ArgFault.{ArgFault}
 use Rattle.arguments.specs.declared.faults.ArgFault.TheVariants as fault
-use Rattle.arguments.specs.declared.task.Task.{Task}
+use Rattle.arguments.specs.declared.mode.Mode.{Mode}
 use Rattle.arguments.proofs.Taken.{AllRows, HasFineRules, IsFine, StopsFine, find_row, level_rows, nil_both, one_value, row_with, walk_stops}
 
 -- the row has one value
@@ -334,7 +334,7 @@ pub refused_options : (entered : Entered) (rows : List Row) (f : ArgFault) → e
 refused_options entered rows f same h = subst (λ (e : Entered). RefusesIn e f) (sym same) (inl (refl, h))
 
 -- what the words ask for, by what they name
-pub asked_by : (words : List Text) (e : Entered) (r : Result Task ArgFault) → e ≡ subcommand_of program words → refusals words ≡ []
+pub asked_by : (words : List Text) (e : Entered) (r : Result Mode ArgFault) → e ≡ subcommand_of program words → refusals words ≡ []
     → MatchResult r (AsksIn e) (RefusesIn e) → MatchResult r (Asks words) (Refuses words)
 asked_by words e (Ok t) is none h = record { taken = none; asked = subst (λ (x : Entered). AsksIn x t) is h }
 asked_by words e (Err (fault.Words x)) is none (inl h) = inl h.1

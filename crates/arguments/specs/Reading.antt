@@ -11,10 +11,10 @@ use Rattle.arguments.specs.Together.{Clashes}
 use Rattle.arguments.specs.declared.faults.ArgFault.{ArgFault}
 use Rattle.arguments.specs.declared.faults.ArgFault.TheVariants.{Options, Words}
 use Rattle.arguments.specs.declared.faults.OptionFault.{OptionFault}
-use Rattle.arguments.specs.declared.task.NodeOptions.{NodeOptions}
-use Rattle.arguments.specs.declared.task.ServeOptions.{ServeOptions}
-use Rattle.arguments.specs.declared.task.Task.{Task}
-use Rattle.arguments.specs.declared.task.Task.TheVariants.{Script, Serve, Node}
+use Rattle.arguments.specs.declared.mode.NodeOptions.{NodeOptions}
+use Rattle.arguments.specs.declared.mode.ServeOptions.{ServeOptions}
+use Rattle.arguments.specs.declared.mode.Mode.{Mode}
+use Rattle.arguments.specs.declared.mode.Mode.TheVariants.{Script, Serve, Node}
 
 -- the value of each option, by its name
 abbrev pub Values : Type 0
@@ -119,7 +119,7 @@ IsLooked entered = (name_in entered ≡ Some (codes "script"))
     ⊎ ((rows : List Row) × (entered ≡ Some (codes "node", rows)) × HasArguments rows)
 
 -- the subcommand and its options ask for this
-abbrev pub AsksIn : Entered → Task → Type 0
+abbrev pub AsksIn : Entered → Mode → Type 0
 AsksIn entered Script = name_in entered ≡ Some (codes "script")
 AsksIn entered (Serve o) = (name_in entered ≡ Some (codes "serve")) × TellsFine (value_in entered) o
 AsksIn entered (Node o) = (name_in entered ≡ Some (codes "node")) × TellsNode (value_in entered) o
@@ -130,9 +130,9 @@ RefusesIn entered fault = ((name_in entered ≡ Some (codes "serve")) × Refuses
     ⊎ ((name_in entered ≡ Some (codes "node")) × RefusesNode (value_in entered) fault)
 
 -- the words, the program's name first, ask for this
-pub record Asks (words : List Bytes) (task : Task) : Type 0 where
+pub record Asks (words : List Bytes) (mode : Mode) : Type 0 where
   pub taken : refusals words ≡ []
-  pub asked : AsksIn (subcommand_of program words) task
+  pub asked : AsksIn (subcommand_of program words) mode
 
 -- the words are taken, and what stands behind the subcommand is refused for the fault
 pub record RefusesOptionsOf (words : List Bytes) (fault : ArgFault) : Type 0 where

@@ -3,7 +3,7 @@ use Rattle.std.specs.Prelude.{◌≡◌, ◌≢◌, ℕ, Bool, true, false, List
 use Rattle.term.specs.declared.limits.TheConstants.{MOST_CONSOLES}
 use Rattle.arguments.specs.declared.faults.OptionFault.{OptionFault}
 use Rattle.arguments.specs.declared.faults.OptionFault.TheVariants.{CookieFile, Idle, Socket, Consoles, NoCookieFile}
-use Rattle.arguments.specs.declared.task.ServeOptions.{ServeOptions}
+use Rattle.arguments.specs.declared.mode.ServeOptions.{ServeOptions}
 
 -- an address names the socket at this path, or is one of the network
 abbrev pub NamesSocket : List ℕ → Option (List ℕ) → Type 0

@@ -3,10 +3,10 @@
 
 mod command_line;
 mod faults;
+mod mode;
 mod nodes;
 mod reading;
-mod task;
 
 pub use faults::{ArgFault, OptionFault};
+pub use mode::{Mode, NodeOptions, ServeOptions};
 pub use reading::read_args;
-pub use task::{NodeOptions, ServeOptions, Task};

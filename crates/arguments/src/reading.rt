@@ -6,8 +6,8 @@ ghost use Rattle.arguments.specs.Reading.{Asks, AsksIn, CountsConsoles, CountsSe
 
 use crate::command_line::command;
 use crate::faults::ArgFault;
+use crate::mode::{Mode, NodeOptions, ServeOptions};
 use crate::nodes::{read_nodes, read_own};
-use crate::task::{NodeOptions, ServeOptions, Task};
 use clap::ArgMatches;
 use std::alloc::{AllocError, Global};
 use term::{CONSOLES, CONSOLES_AT_ONCE};
@@ -98,21 +98,21 @@ fn read_node(matches: &ArgMatches<'_>) -> Result<NodeOptions, ArgFault>
 }
 
 /// Reads what clap found, which has looked at it before.
-fn read_matches(alloc: Global, matches: &ArgMatches<'_>) -> Result<Task, ArgFault>
+fn read_matches(alloc: Global, matches: &ArgMatches<'_>) -> Result<Mode, ArgFault>
     requires { IsLooked (subcommand_rows_of matches.now) }
     ensures { MatchResult result (AsksIn (subcommand_rows_of matches.now)) (RefusesIn (subcommand_rows_of matches.now)) }
 {
     match matches.subcommand() {
-        Some(("serve", options)) => Ok(Task::Serve(read_options(alloc, options)?)),
-        Some(("node", arguments)) => Ok(Task::Node(read_node(arguments)?)),
-        _ => Ok(Task::Script),
+        Some(("serve", options)) => Ok(Mode::Serve(read_options(alloc, options)?)),
+        Some(("node", arguments)) => Ok(Mode::Node(read_node(arguments)?)),
+        _ => Ok(Mode::Script),
     }
 }
 
 /// Reads the words, the first of which is the program's name: what they ask for, or why they are not taken.
 #[tactic(auto, using(crate::proofs::Words::known_words))]
-pub fn read_args(alloc: Global, words: &[String]) -> Result<Task, ArgFault>
-    ensures task { MatchResult result (Asks (map string_bytes words.now)) (Refuses (map string_bytes words.now)) }
+pub fn read_args(alloc: Global, words: &[String]) -> Result<Mode, ArgFault>
+    ensures mode { MatchResult result (Asks (map string_bytes words.now)) (Refuses (map string_bytes words.now)) }
     ensures known { KnownWords }
 {
     let matches = command(alloc)?.try_get_matches_from(words)?;

@@ -1,12 +1,12 @@
 -- The logs of all nodes are put in, one node after the other.
 use Rattle.std.proofs.Common.{ℕ, zero, suc, ◌≡◌, ◌+◌, ◌<◌, ◌≤◌, inl, inr, List, [], length, refl, sym, ap, subst, ◌∙◌, arith}
 use Rattle.std.proofs.lemmas.Bool.{cases_eq, cases_lt}
-use Rattle.closings.specs.Alone.{Entry}
+use Rattle.closings.specs.Alone.{LogEntry}
 use Rattle.closings.specs.Merging.{Step, steps_of, IsInOrder}
 use Rattle.closing_runs.specs.Laws.{steps_below, AreMerged, LogsMerge}
 use Rattle.closing_runs.proofs.Entering.{enter, AreRising, enter_others, enter_own, enter_order, enter_count, rising}
 
-module _ (logs : ℕ → List Entry) where
+module _ (logs : ℕ → List LogEntry) where
   -- the steps of the nodes below n
   abbrev gathered : ℕ → List Step
   gathered zero = []

@@ -3,7 +3,7 @@ use Rattle.std.proofs.Common.{ℕ, suc, true, false, ◌==◌, ◌≡◌, ◌<�
 use Rattle.std.proofs.lemmas.Bool.{eqb-true, eqb-false, cases_eq, cond_both}
 use Rattle.std.proofs.lemmas.Bool.Decides.{nat_tests}
 use Rattle.std.specs.Prelude.{if◌then◌else◌, ◌||◌, ◌&&◌, nat_lt}
-use Rattle.closings.specs.Alone.{Entry}
+use Rattle.closings.specs.Alone.{LogEntry}
 use Rattle.closings.specs.Merging.{Step, steps_of, is_before, IsInOrder}
 
 -- these steps, with one more in front of the first that it is before
@@ -66,7 +66,7 @@ one_more s [] = refl
 one_more s (t ∷ ts) = by_place (λ us. length us ≡ suc (suc (length ts))) s t ts (λ _. refl) (λ _. ap suc (one_more s ts))
 
 -- what holds of a node's entries where the first of these steps is its own, and where it isn't
-by_owner : (P : List Entry → Type 0) (a : ℕ) (s : Step) (ss : List Step) → (s.node ≡ a → P (s.entry ∷ steps_of a ss))
+by_owner : (P : List LogEntry → Type 0) (a : ℕ) (s : Step) (ss : List Step) → (s.node ≡ a → P (s.entry ∷ steps_of a ss))
     → ((s.node ≡ a → ⊥) → P (steps_of a ss)) → P (steps_of a (s ∷ ss))
 by_owner P a s ss own other =
     let others : List Step = filter (λ (t : Step). t.node == a) ss in
@@ -89,12 +89,12 @@ own_first s (t ∷ ts) l = by_place (λ us. steps_of s.node us ≡ s.entry ∷ s
     further : (t.node ≡ s.node → ⊥) → steps_of s.node (insert s ts) ≡ s.entry ∷ steps_of s.node ts
         → steps_of s.node (t ∷ insert s ts) ≡ s.entry ∷ steps_of s.node (t ∷ ts)
     further ne e = other_step s.node t (insert s ts) ne ∙ e
-        ∙ ap (λ (es : List Entry). s.entry ∷ es) (sym (other_step s.node t ts ne))
+        ∙ ap (λ (es : List LogEntry). s.entry ∷ es) (sym (other_step s.node t ts ne))
 
 -- a node has the same behind one step where it has the same of the others
 behind_one : (a : ℕ) (t : Step) (ss ts : List Step) → steps_of a ss ≡ steps_of a ts → steps_of a (t ∷ ss) ≡ steps_of a (t ∷ ts)
 behind_one a t ss ts e = by_owner (λ es. es ≡ steps_of a (t ∷ ts)) a t ss
-    (λ is. ap (λ (es : List Entry). t.entry ∷ es) e ∙ sym (own_step a t ts is))
+    (λ is. ap (λ (es : List LogEntry). t.entry ∷ es) e ∙ sym (own_step a t ts is))
     (λ ne. e ∙ sym (other_step a t ts ne))
 
 -- the other nodes have what they had
@@ -104,7 +104,7 @@ others_same a s (t ∷ ts) ne = by_place (λ us. steps_of a us ≡ steps_of a (t
     (λ _. other_step a s (t ∷ ts) ne) (λ _. behind_one a t (insert s ts) ts (others_same a s ts ne))
 
 -- all of these entries have stamps above this one
-abbrev pub AreAbove : ℕ → List Entry → Type 0
+abbrev pub AreAbove : ℕ → List LogEntry → Type 0
 AreAbove n [] = Unit {0}
 AreAbove n (e ∷ es) = (n < e.stamp) × AreAbove n es
 

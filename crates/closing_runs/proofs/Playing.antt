@@ -4,7 +4,7 @@ use Rattle.std.proofs.lemmas.Bool.Decides.{nat_tests}
 use Rattle.std.specs.Prelude.{◌&&◌, nat_lt}
 use Rattle.protocol_model.specs.Node.{Node, opening_node}
 use Rattle.protocol_model.specs.World.{Opening, in_cluster}
-use Rattle.closings.specs.Alone.{Stamped, Entry, Made, sent, Does, unread_after, StartsAbove, Plays}
+use Rattle.closings.specs.Alone.{Stamped, LogEntry, Made, sent, Does, unread_after, StartsAbove, Plays}
 use Rattle.closings.proofs.Merged.{consistent_ends_play}
 use Rattle.closing_runs.specs.Laws.{AreMerged, ConsistentEndsHaveARun}
 use Rattle.closing_runs.proofs.Inserting.{AreAbove}
@@ -12,7 +12,7 @@ use Rattle.closing_runs.proofs.Entering.{AreRising, above_lesser}
 use Rattle.closing_runs.proofs.Gathering.{merge}
 
 -- the entries of these steps
-abbrev entries : List Made → List Entry
+abbrev entries : List Made → List LogEntry
 entries ds = map (λ d. d.entry) ds
 
 -- where the first of these steps has a stamp above n, and they rise, all have

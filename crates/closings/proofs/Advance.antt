@@ -5,17 +5,17 @@ use Rattle.registry_model.specs.Process.{at}
 use Rattle.registry_model.proofs.Updates.{by_test}
 use Rattle.protocol_model.specs.Node.{Node}
 use Rattle.protocol_model.specs.World.{Opening, World, place, happens, opening_world}
-use Rattle.closings.specs.Alone.{Stamped, Entry, Made, sent, Does, Plays, node_behind, AreConsistent}
+use Rattle.closings.specs.Alone.{Stamped, LogEntry, Made, sent, Does, Plays, node_behind, AreConsistent}
 use Rattle.closings.specs.Merging.{Step, happening, Takes}
 use Rattle.closings.proofs.Letters.{StartsFrom, waiting_after}
 use Rattle.closings.proofs.Stepping.{Stands, takes, stands_on, nodes_on}
 
 -- the entries of these steps
-abbrev pub entries : List Made → List Entry
+abbrev pub entries : List Made → List LogEntry
 entries ds = map (λ d. d.entry) ds
 
 -- what is left of its node's log is the step, and then these entries
-pub record Heads (left : ℕ → List Made) (s : Step) (es : List Entry) : Type 0 where
+pub record Heads (left : ℕ → List Made) (s : Step) (es : List LogEntry) : Type 0 where
   pub made : Made
   pub behind : List Made
   pub is : left s.node ≡ made ∷ behind
@@ -23,17 +23,17 @@ pub record Heads (left : ℕ → List Made) (s : Step) (es : List Entry) : Type 
   pub others : entries behind ≡ es
 
 -- so it is where the entries that are left say so
-pub heads : (left : ℕ → List Made) (s : Step) (es : List Entry) → entries (left s.node) ≡ s.entry ∷ es → Heads left s es
+pub heads : (left : ℕ → List Made) (s : Step) (es : List LogEntry) → entries (left s.node) ≡ s.entry ∷ es → Heads left s es
 heads left s es = go (left s.node) refl
   where
     go : (ds : List Made) → left s.node ≡ ds → entries ds ≡ s.entry ∷ es → Heads left s es
     go [] e h = cc
     go (d ∷ ds) e h = record { made = d; behind = ds; is = e; entry = first h; others = rest h }
       where
-        first : {x : Entry} {xs : List Entry} → x ∷ xs ≡ s.entry ∷ es → x ≡ s.entry
+        first : {x : LogEntry} {xs : List LogEntry} → x ∷ xs ≡ s.entry ∷ es → x ≡ s.entry
         first e = cc
 
-        rest : {x : Entry} {xs : List Entry} → x ∷ xs ≡ s.entry ∷ es → xs ≡ es
+        rest : {x : LogEntry} {xs : List LogEntry} → x ∷ xs ≡ s.entry ∷ es → xs ≡ es
         rest e = cc
 
 -- the world takes the step, and stands behind it so again; each node comes to stand at last as it would have
@@ -71,10 +71,10 @@ module _ (o : Opening) (w : World) (q : ℕ → ℕ → List Stamped) (left : �
 
 -- what comes next in its log and has the least stamp of all that is left is taken
 pub advance : (o : Opening) (w : World) (q : ℕ → ℕ → List Stamped) (left : ℕ → List Made) → Stands o w q left → (s : Step)
-    (es : List Entry) (H : Heads left s es) → ((c : ℕ) → StartsFrom s.entry.stamp (left c)) → Goes o w left s H.behind
+    (es : List LogEntry) (H : Heads left s es) → ((c : ℕ) → StartsFrom s.entry.stamp (left c)) → Goes o w left s H.behind
 advance o w q left S s es H least =
-    subst (λ (e : Entry). Goes o w left (record { node = s.node; entry = e }) H.behind) H.entry
-    (goes o w q left S H.made H.behind s.node H.is (subst (λ (e : Entry). (c : ℕ) → StartsFrom e.stamp (left c)) (sym H.entry) least))
+    subst (λ (e : LogEntry). Goes o w left (record { node = s.node; entry = e }) H.behind) H.entry
+    (goes o w q left S H.made H.behind s.node H.is (subst (λ (e : LogEntry). (c : ℕ) → StartsFrom e.stamp (left c)) (sym H.entry) least))
 
 -- at the opening no letter waits, and all steps are left
 pub opens : (o : Opening) (course : ℕ → List Made) → AreConsistent o course → Stands o (opening_world o) (λ f t. []) course

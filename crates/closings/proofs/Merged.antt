@@ -5,7 +5,7 @@ use Rattle.registry_model.specs.Process.{at}
 use Rattle.registry_model.proofs.Updates.{by_test}
 use Rattle.protocol_model.specs.Node.{Node}
 use Rattle.protocol_model.specs.World.{Opening, World, happens, opening_world, run}
-use Rattle.closings.specs.Alone.{Stamped, Entry, Made, node_behind}
+use Rattle.closings.specs.Alone.{Stamped, LogEntry, Made, node_behind}
 use Rattle.closings.specs.Merging.{Step, steps_of, IsInOrder, happening, events_in, TakesAll}
 use Rattle.closings.specs.Laws.{ConsistentEndsPlay}
 use Rattle.closings.proofs.Letters.{StartsFrom}
@@ -30,7 +30,7 @@ all_later n s (t ∷ ss) l h =
     reach x y z h k = omega (arith, h, k)
 
 -- the first of these entries, if there is one, has no stamp below n
-abbrev EntriesFrom : ℕ → List Entry → Type 0
+abbrev EntriesFrom : ℕ → List LogEntry → Type 0
 EntriesFrom n [] = Unit {0}
 EntriesFrom n (e ∷ es) = n ≤ e.stamp
 

@@ -8,7 +8,7 @@ use Rattle.registry_model.specs.Process.{at}
 use Rattle.registry_model.proofs.Updates.{by_test}
 use Rattle.protocol_model.specs.Node.{Node}
 use Rattle.protocol_model.specs.World.{Opening, World, happens, opening_world, run}
-use Rattle.closings.specs.Alone.{Stamped, Entry, Made, sent, Does, Plays}
+use Rattle.closings.specs.Alone.{Stamped, LogEntry, Made, sent, Does, Plays}
 use Rattle.closings.specs.Merging.{Step, steps_of, IsNext, AreNext, Rises, happening, events_in, world_behind, Takes}
 use Rattle.closings.specs.Laws.{ConsistentEndsGoOn}
 use Rattle.closings.proofs.Letters.{StartsFrom}
@@ -17,7 +17,7 @@ use Rattle.closings.proofs.Runs.{not_before, count_own, count_other, left_is, he
 use Rattle.closings.proofs.Advance.{entries, Heads, heads, Goes, advance, opens}
 
 -- behind a beginning of the run a world stands beside its nodes played alone, and what is left of each log is what it has from there on
-pub record Behind (o : Opening) (logs : ℕ → List Entry) (before : List Step) : Type 0 where
+pub record Behind (o : Opening) (logs : ℕ → List LogEntry) (before : List Step) : Type 0 where
   pub waiting : ℕ → ℕ → List Stamped
   pub left : ℕ → List Made
   pub stands : Stands o (world_behind o before) waiting left
@@ -29,7 +29,7 @@ world_on : (o : Opening) (before : List Step) (s : Step)
 world_on o before s = ap (run o (opening_world o)) (map-append happening before (s ∷ []))
     ∙ fold-append (happens o) (opening_world o) (events_in before) (happening s ∷ [])
 
-module _ (o : Opening) (logs : ℕ → List Entry) (before : List Step) (B : Behind o logs before) (s : Step) (N : IsNext logs before s) where
+module _ (o : Opening) (logs : ℕ → List LogEntry) (before : List Step) (B : Behind o logs before) (s : Step) (N : IsNext logs before s) where
   abbrev at_k : ℕ
   at_k = length (steps_of s.node before)
 
@@ -67,7 +67,7 @@ module _ (o : Opening) (logs : ℕ → List Entry) (before : List Step) (B : Beh
   }
 
 -- and behind any more of the run
-behind : (o : Opening) (logs : ℕ → List Entry) (before ss : List Step) → Behind o logs before → AreNext logs before ss
+behind : (o : Opening) (logs : ℕ → List LogEntry) (before ss : List Step) → Behind o logs before → AreNext logs before ss
     → Behind o logs (before ++ ss)
 behind o logs before [] B h = subst (Behind o logs) (sym (append-nil before)) B
 behind o logs before (s ∷ ss) B h =
@@ -80,18 +80,18 @@ rises_at : (o : Opening) (a : ℕ) (ds : List Made) (letters : ℕ → List Stam
 rises_at o a ds letters v zero P = tt
 rises_at o a [] letters v (suc k) P = λ d e h. none d k h
   where
-    none : (d : Entry) (k : ℕ) → slice_get [] k ≡ Some d → {e : Entry} → slice_get [] (suc k) ≡ Some e → d.stamp < e.stamp
+    none : (d : LogEntry) (k : ℕ) → slice_get [] k ≡ Some d → {e : LogEntry} → slice_get [] (suc k) ≡ Some e → d.stamp < e.stamp
     none d k h = cc
 rises_at o a (x ∷ []) letters v (suc k) P = λ d e h i. none d e k i
   where
-    none : (d e : Entry) (k : ℕ) → slice_get [] k ≡ Some e → d.stamp < e.stamp
+    none : (d e : LogEntry) (k : ℕ) → slice_get [] k ≡ Some e → d.stamp < e.stamp
     none d e k i = cc
 rises_at o a (x ∷ y ∷ ds) letters v (suc zero) P = λ d e h i. is d e x.entry y.entry h i P.0.rises
   where
-    is : (d e f g : Entry) → Some f ≡ Some d → Some g ≡ Some e → f.stamp < g.stamp → d.stamp < e.stamp
-    is d e f g h i l = subst (λ (z : Entry). d.stamp < z.stamp) (one g e i) (subst (λ (z : Entry). z.stamp < g.stamp) (one f d h) l)
+    is : (d e f g : LogEntry) → Some f ≡ Some d → Some g ≡ Some e → f.stamp < g.stamp → d.stamp < e.stamp
+    is d e f g h i l = subst (λ (z : LogEntry). d.stamp < z.stamp) (one g e i) (subst (λ (z : LogEntry). z.stamp < g.stamp) (one f d h) l)
       where
-        one : (x y : Entry) → Some x ≡ Some y → x ≡ y
+        one : (x y : LogEntry) → Some x ≡ Some y → x ≡ y
         one x y e = cc
 rises_at o a (x ∷ y ∷ ds) letters v (suc (suc k)) P =
     rises_at o a (y ∷ ds) _ x.after (suc k) P.1
@@ -101,7 +101,7 @@ consistent_ends_go_on o logs tables before s C A N =
     let B : Behind o logs before =
     behind o logs [] before
     (record { waiting = λ f t. []; left = C.course; stands = opens o C.course C.alone; rest = λ a. C.logged a }) A in (
-      subst (λ (es : List Entry). Rises es (length (steps_of s.node before))) (C.logged s.node)
+      subst (λ (es : List LogEntry). Rises es (length (steps_of s.node before))) (C.logged s.node)
           (rises_at o s.node (C.course s.node) (λ f. sent s.node (C.course f)) _ (length (steps_of s.node before)) (C.alone s.node)),
       taken o logs before B s N,
     )

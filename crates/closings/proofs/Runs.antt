@@ -6,7 +6,7 @@ use Rattle.std.proofs.lemmas.List.{map-append}
 use Rattle.std.proofs.lemmas.List.Elements.{filter-append}
 use Rattle.std.specs.List.{slice_get}
 use Rattle.std.specs.Prelude.{if◌then◌else◌, ◌||◌, ◌&&◌, nat_lt}
-use Rattle.closings.specs.Alone.{Entry}
+use Rattle.closings.specs.Alone.{LogEntry}
 use Rattle.closings.specs.Merging.{Step, steps_of}
 
 -- what is before another has no greater stamp
@@ -33,10 +33,10 @@ more_of : (c : ℕ) (ss : List Step) (s : Step) → steps_of c (ss ++ s ∷ []) 
 more_of c ss s = ap (map (λ (t : Step). t.entry)) (filter-append (λ (t : Step). t.node == c) ss (s ∷ []))
     ∙ map-append (λ (t : Step). t.entry) (filter (λ (t : Step). t.node == c) ss) (filter (λ (t : Step). t.node == c) (s ∷ []))
 
-more_count : (c : ℕ) (ss : List Step) (s : Step) (es : List Entry) → steps_of c (s ∷ []) ≡ es
+more_count : (c : ℕ) (ss : List Step) (s : Step) (es : List LogEntry) → steps_of c (s ∷ []) ≡ es
     → length (steps_of c (ss ++ s ∷ [])) ≡ length (steps_of c ss) + length es
 more_count c ss s es e = ap length (more_of c ss s) ∙ length-append (steps_of c ss) (steps_of c (s ∷ []))
-    ∙ ap (λ (fs : List Entry). length (steps_of c ss) + length fs) e
+    ∙ ap (λ (fs : List LogEntry). length (steps_of c ss) + length fs) e
 
 -- its own node has one more, and no other has
 pub count_own : (ss : List Step) (s : Step) → length (steps_of s.node (ss ++ s ∷ [])) ≡ suc (length (steps_of s.node ss))
@@ -52,20 +52,20 @@ count_other c ss s ne = more_count c ss s [] (other_step c s [] ne) ∙ none (le
     none n = omega arith
 
 -- what a log has at k is the front of what it has from k on
-pub left_is : (es : List Entry) (k : ℕ) (e : Entry) → slice_get es k ≡ Some e → drop k es ≡ e ∷ drop (suc k) es
+pub left_is : (es : List LogEntry) (k : ℕ) (e : LogEntry) → slice_get es k ≡ Some e → drop k es ≡ e ∷ drop (suc k) es
 left_is [] k e h = cc
-left_is (x ∷ es) zero e h = ap (λ (y : Entry). y ∷ es) (one x e h)
+left_is (x ∷ es) zero e h = ap (λ (y : LogEntry). y ∷ es) (one x e h)
   where
-    one : (x y : Entry) → Some x ≡ Some y → x ≡ y
+    one : (x y : LogEntry) → Some x ≡ Some y → x ≡ y
     one x y e = cc
 left_is (x ∷ es) (suc k) e h = left_is es k e h
 
 -- and the other way round
-pub head_is : (es : List Entry) (k : ℕ) (e : Entry) (xs : List Entry) → drop k es ≡ e ∷ xs → slice_get es k ≡ Some e
+pub head_is : (es : List LogEntry) (k : ℕ) (e : LogEntry) (xs : List LogEntry) → drop k es ≡ e ∷ xs → slice_get es k ≡ Some e
 head_is [] zero e xs h = cc
 head_is [] (suc k) e xs h = cc
 head_is (x ∷ es) zero e xs h = one h
   where
-    one : {ys zs : List Entry} → x ∷ ys ≡ e ∷ zs → Some x ≡ Some e
+    one : {ys zs : List LogEntry} → x ∷ ys ≡ e ∷ zs → Some x ≡ Some e
     one h = cc
 head_is (x ∷ es) (suc k) e xs h = head_is es k e xs h

@@ -14,14 +14,14 @@ pub record Stamped : Type 0 where
   pub letter : Letter
 
 -- a step as the log of its node has it
-pub record Entry : Type 0 where
+pub record LogEntry : Type 0 where
   pub stamp : ℕ
   pub event : WorldEvent
   pub answers : List Answer
 
 -- a step, and what no log has of it: the node behind it, and what it sends
 pub record Made : Type 0 where
-  pub entry : Entry
+  pub entry : LogEntry
   pub after : Node
   pub sends : List Send
 

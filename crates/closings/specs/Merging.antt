@@ -2,19 +2,19 @@
 use Rattle.std.specs.Prelude.{ℕ, zero, suc, Bool, true, false, ◌≡◌, ◌==◌, ◌<◌, ◌&&◌, ◌||◌, nat_lt, Option, Some, None, map, filter, length, List, [], ◌∷◌, ◌++◌}
 use Rattle.std.specs.List.{slice_get}
 use Rattle.protocol_model.specs.World.{Opening, World, WorldEvent, place, refusal, happens, answers, opening_world, run}
-use Rattle.closings.specs.Alone.{Entry}
+use Rattle.closings.specs.Alone.{LogEntry}
 
 -- a step: whose it is, and its entry in that node's log
 pub record Step : Type 0 where
   pub node : ℕ
-  pub entry : Entry
+  pub entry : LogEntry
 
 -- the entries of node a among these steps, in order
-abbrev pub steps_of : ℕ → List Step → List Entry
+abbrev pub steps_of : ℕ → List Step → List LogEntry
 steps_of a ss = map (λ s. s.entry) (filter (λ s. s.node == a) ss)
 
 -- what node a's log has next, behind these steps
-abbrev pub next_of : ℕ → (ℕ → List Entry) → List Step → Option Entry
+abbrev pub next_of : ℕ → (ℕ → List LogEntry) → List Step → Option LogEntry
 next_of a logs ss = slice_get (logs a) (length (steps_of a ss))
 
 -- steps are ordered by their stamps, and those of one stamp by their nodes
@@ -28,27 +28,27 @@ IsInOrder (s ∷ []) = Unit {0}
 IsInOrder (s ∷ t ∷ ss) = (is_before s t ≡ true) × IsInOrder (t ∷ ss)
 
 -- in order, each node's steps are those of its log
-pub record IsMerged (logs : ℕ → List Entry) (ss : List Step) : Type 0 where
+pub record IsMerged (logs : ℕ → List LogEntry) (ss : List Step) : Type 0 where
   pub order : IsInOrder ss
   pub whole : (a : ℕ) → steps_of a ss ≡ logs a
 
 -- behind these steps this one comes next: it is the next of its node's log, and no log has an earlier one
-pub record IsNext (logs : ℕ → List Entry) (ss : List Step) (s : Step) : Type 0 where
+pub record IsNext (logs : ℕ → List LogEntry) (ss : List Step) (s : Step) : Type 0 where
   pub head : next_of s.node logs ss ≡ Some s.entry
   pub least : (t : Step) → next_of t.node logs ss ≡ Some t.entry → is_before t s ≡ false
 
 -- behind the steps before, each of these came next
-abbrev pub AreNext : (ℕ → List Entry) → List Step → List Step → Type 0
+abbrev pub AreNext : (ℕ → List LogEntry) → List Step → List Step → Type 0
 AreNext logs before [] = Unit {0}
 AreNext logs before (s ∷ ss) = IsNext logs before s × AreNext logs (before ++ s ∷ []) ss
 
 -- the stamp of entry k of this log is above that of the entry before it, if there is one
-abbrev pub Rises : List Entry → ℕ → Type 0
+abbrev pub Rises : List LogEntry → ℕ → Type 0
 Rises es zero = Unit {0}
-Rises es (suc k) = (d e : Entry) → slice_get es k ≡ Some d → slice_get es (suc k) ≡ Some e → d.stamp < e.stamp
+Rises es (suc k) = (d e : LogEntry) → slice_get es k ≡ Some d → slice_get es (suc k) ≡ Some e → d.stamp < e.stamp
 
 -- behind these steps the stamp of this one rises in its log
-abbrev pub RisesBehind : (ℕ → List Entry) → List Step → Step → Type 0
+abbrev pub RisesBehind : (ℕ → List LogEntry) → List Step → Step → Type 0
 RisesBehind logs ss s = Rises (logs s.node) (length (steps_of s.node ss))
 
 -- the event of a step

@@ -8,9 +8,9 @@ use Rattle.arguments.specs.CommandLine.{program, refusals, value_in}
 use Rattle.arguments.specs.Reading.{Asks, Refuses, RefusesOptionsOf}
 use Rattle.arguments.specs.declared.faults.ArgFault.{ArgFault}
 use Rattle.arguments.specs.declared.faults.ArgFault.TheVariants.{Options, Words, Text, SameNode, TooManyNodes, NoSuchNode}
-use Rattle.arguments.specs.declared.task.ServeOptions.{ServeOptions}
-use Rattle.arguments.specs.declared.task.NodeOptions.{NodeOptions}
-use Rattle.arguments.specs.declared.task.Task.TheVariants.{Script, Serve, Node}
+use Rattle.arguments.specs.declared.mode.ServeOptions.{ServeOptions}
+use Rattle.arguments.specs.declared.mode.NodeOptions.{NodeOptions}
+use Rattle.arguments.specs.declared.mode.Mode.TheVariants.{Script, Serve, Node}
 use Rattle.cluster_main.specs.Answering.{DoesFor, DoesNothing, DoesTask, PlaysScript, RunsNode, Streams, Told}
 use Rattle.cluster_main.specs.Refusing.{IsRefused, IsShown, IsTold, status_for}
 use Rattle.cluster_main.specs.Serving.{Serves, TellsWhy, served_status}

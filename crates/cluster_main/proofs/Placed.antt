@@ -14,7 +14,7 @@ use Rattle.term.proofs.NodeLists.{rising-tail}
 use Rattle.term.proofs.NodeSets.{rises, set_of-fits}
 use Rattle.arguments.specs.Nodes.{SpellsLone, shares}
 use Rattle.arguments.specs.Reading.{TellsFine, Values}
-use Rattle.arguments.specs.declared.task.ServeOptions.{ServeOptions}
+use Rattle.arguments.specs.declared.mode.ServeOptions.{ServeOptions}
 use Rattle.server.specs.Openings.{repeats, start_refused}
 use Rattle.cluster_main.specs.Serving.{IsReady}
 

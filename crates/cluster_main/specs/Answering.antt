@@ -9,8 +9,8 @@ use Rattle.node_port.specs.Ran.{NodeRan, NodeStopped}
 use Rattle.arguments.specs.CommandLine.{Entered, name_in, program, refusals, value_in}
 use Rattle.arguments.specs.Reading.{RefusesIn, TellsFine, TellsNode, Values}
 use Rattle.arguments.specs.declared.faults.ArgFault.{ArgFault}
-use Rattle.arguments.specs.declared.task.NodeOptions.{NodeOptions}
-use Rattle.arguments.specs.declared.task.ServeOptions.{ServeOptions}
+use Rattle.arguments.specs.declared.mode.NodeOptions.{NodeOptions}
+use Rattle.arguments.specs.declared.mode.ServeOptions.{ServeOptions}
 use Rattle.cluster_main.specs.Refusing.{IsTold, status_for}
 use Rattle.cluster_main.specs.Serving.{Serves, TellsWhy, served_status}
 use Rattle.cluster_main.specs.declared.serving.Served.{Served}

@@ -4,18 +4,18 @@ use Rattle.std.specs.Fmt.{decimal}
 use Rattle.term.specs.declared.limits.TheConstants.{LONGEST_PATH}
 use Rattle.arguments.specs.Together.{NamesSocket}
 use Rattle.server.specs.Printing.{ended}
-use Rattle.server.specs.declared.entry.Entry.{Entry}
-use Rattle.server.specs.declared.entry.Entry.TheVariants.{Tcp, Unix}
+use Rattle.server.specs.declared.listener.Listener.{Listener}
+use Rattle.server.specs.declared.listener.Listener.TheVariants.{Tcp, Unix}
 use Rattle.cluster_main.specs.declared.sockets.ListenFault.{ListenFault}
 use Rattle.cluster_main.specs.declared.sockets.ListenFault.TheVariants.{InUse, NotASocket, TooLong, InTheWay, System}
 
 -- this is where consoles come in that are sent to an address: a socket where it names one, and else the network
-abbrev pub EntersAt : List ℕ → Entry → Type 0
+abbrev pub EntersAt : List ℕ → Listener → Type 0
 EntersAt address (Unix listener) = (path : List ℕ) × NamesSocket address (Some path)
 EntersAt address (Tcp listener) = NamesSocket address None
 
 -- the port at an entry: which one, and whether it is known, is for the system; a socket has none
-abbrev pub IsPortOf : Entry → Option ℕ → Type 0
+abbrev pub IsPortOf : Listener → Option ℕ → Type 0
 IsPortOf (Unix listener) port = port ≡ None
 IsPortOf (Tcp listener) port = ⊤
 

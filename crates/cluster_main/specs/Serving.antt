@@ -2,7 +2,7 @@
 use Rattle.std.specs.Prelude.{ℕ, ◌≡◌, Bool, true, false, ⊤, codes, string_bytes, option_map, List, Option, Some, None, Result, Ok}
 use Rattle.std.specs.Io.KnownBytes.{Appends, Keeps}
 use Rattle.arguments.specs.Together.{Clashes}
-use Rattle.arguments.specs.declared.task.ServeOptions.{ServeOptions}
+use Rattle.arguments.specs.declared.mode.ServeOptions.{ServeOptions}
 use Rattle.server.specs.Openings.{start_refused}
 use Rattle.text_lines.specs.Writing.{AppendsPart}
 use Rattle.server.specs.Serving.{ServesCluster}

@@ -6,7 +6,7 @@ ghost use Rattle.cluster_main.specs.Answering.{Does};
 use crate::playing::{play, run};
 use crate::refusing::refuse;
 use crate::serving::serve;
-use arguments::{Task, read_args};
+use arguments::{Mode, read_args};
 use std::alloc::Global;
 use std::fs::Files;
 use std::io::{BufReader, Read, Write};
@@ -45,9 +45,9 @@ where
         return 2;
     };
     match read_args(alloc, words) {
-        Ok(Task::Script) => play(alloc, reader, writer),
-        Ok(Task::Node(options)) => run(alloc, &options, reader, writer),
-        Ok(Task::Serve(options)) => serve(rt, alloc, &options, writer, errors).status(),
+        Ok(Mode::Script) => play(alloc, reader, writer),
+        Ok(Mode::Node(options)) => run(alloc, &options, reader, writer),
+        Ok(Mode::Serve(options)) => serve(rt, alloc, &options, writer, errors).status(),
         Err(fault) => refuse(&fault, writer, errors),
     }
 }

@@ -4,30 +4,34 @@ ghost use Rattle.cluster_main.specs.Listening.{EntersAt, HasPort, IsListeningLin
 
 use crate::sockets::{ListenFault, bind_private};
 use arguments::ServeOptions;
-use server::Entry;
+use server::Listener;
 use std::alloc::{AllocError, Global};
 use std::fs::Files;
 use std::net::{Net, TcpListener, TcpStream};
 
 /// Listens at the address: at a socket where it names one, and else at one of the network.
-pub(crate) fn listen<H>(rt: &H, alloc: Global, options: &ServeOptions) -> Result<Entry, ListenFault>
+pub(crate) fn listen<H>(
+    rt: &H,
+    alloc: Global,
+    options: &ServeOptions,
+) -> Result<Listener, ListenFault>
 where
     H: Files + Net<Listener = TcpListener, Stream = TcpStream>,
     ensures { MatchResult result (EntersAt (string_bytes options.now.listen)) (RefusesAddress (string_bytes options.now.listen)) }
 {
     match options.socket() {
-        Some(path) => Ok(Entry::Unix(bind_private(rt, alloc, path)?)),
-        None => Ok(Entry::Tcp(TcpListener::bind(rt, options.listen.as_str())?)),
+        Some(path) => Ok(Listener::Unix(bind_private(rt, alloc, path)?)),
+        None => Ok(Listener::Tcp(TcpListener::bind(rt, options.listen.as_str())?)),
     }
 }
 
 /// The port that the listener at an entry tells, if it tells one.
-fn port_of(entry: &Entry) -> Option<u16>
+fn port_of(entry: &Listener) -> Option<u16>
     ensures { IsPortOf entry.now result }
 {
     match entry {
-        Entry::Tcp(listener) => Some(listener.local_addr().ok()?.port()),
-        Entry::Unix(_) => None,
+        Listener::Tcp(listener) => Some(listener.local_addr().ok()?.port()),
+        Listener::Unix(_) => None,
     }
 }
 
@@ -62,7 +66,7 @@ fn line_of(alloc: Global, address: &str) -> Result<String, AllocError>
 /// `HOST:0`, it is told with the port that the listener has, unless that isn't known.
 pub(crate) fn listening_line(
     alloc: Global,
-    entry: &Entry,
+    entry: &Listener,
     written: &str,
 ) -> Result<String, AllocError>
     requires { EntersAt written.now entry.now }

@@ -14,7 +14,7 @@ use crate::listening::{listen, listening_line};
 use crate::refusing::refuse_value;
 use crate::sockets::{ListenFault, Standing};
 use arguments::ServeOptions;
-use server::{Cookie, Entry, ServeFault, StayFault, StayOptions, run_serve, run_stay};
+use server::{Cookie, Listener, ServeFault, StayFault, StayOptions, run_serve, run_stay};
 use std::alloc::Global;
 use std::fs::Files;
 use std::io::Write;
@@ -67,7 +67,7 @@ fn stay_options(options: &ServeOptions, cookie: Option<Cookie>) -> StayOptions
 fn stay<H, W, E>(
     rt: &H,
     alloc: Global,
-    entry: Entry,
+    entry: Listener,
     options: &ServeOptions,
     cookie: Option<Cookie>,
     listening: &str,
@@ -138,7 +138,7 @@ where
 fn serve_telling<H, W, E>(
     rt: &H,
     alloc: Global,
-    entry: Entry,
+    entry: Listener,
     options: &ServeOptions,
     cookie: Option<Cookie>,
     listening: &str,
@@ -161,8 +161,8 @@ where
         return Served::Stayed(stayed);
     }
     match entry {
-        Entry::Tcp(listener) => serve_so_many(rt, alloc, listener, options, listening, writer),
-        Entry::Unix(_) => unreachable!(),
+        Listener::Tcp(listener) => serve_so_many(rt, alloc, listener, options, listening, writer),
+        Listener::Unix(_) => unreachable!(),
     }
 }
 
@@ -170,7 +170,7 @@ where
 fn serve_at<H, W, E>(
     rt: &H,
     alloc: Global,
-    entry: Entry,
+    entry: Listener,
     options: &ServeOptions,
     cookie: Option<Cookie>,
     writer: &mut W,

@@ -8,7 +8,7 @@ use Rattle.protocol_model.specs.Event.{Answer as AnyAnswer}
 use Rattle.protocol_model.specs.NamedEvents.{Said}
 use Rattle.cluster_world.specs.NodeNames.{NamedOpening}
 use Rattle.cluster_world.specs.NamedWorld.{NamedEvent, run_named}
-use Rattle.cluster_world.specs.Held.{Held}
+use Rattle.cluster_world.specs.WorldState.{WorldState}
 use Rattle.cluster_world.specs.Seen.{names_of, named}
 use Rattle.cluster_world.specs.Playing.{events_of}
 use Rattle.cluster_world.specs.Settling.{GoesOn}
@@ -27,7 +27,7 @@ use Rattle.cluster_script.specs.Played.{PlaysAsked, shown_on}
 use Rattle.cluster_script.proofs.Settling.{Ended-text, Ended-fine}
 
 -- these events were played, and this comes next
-module _ (old new : Held) (given : List Answer) (r : Option NamedEvent) (kept : names_of new ≡ names_of old)
+module _ (old new : WorldState) (given : List Answer) (r : Option NamedEvent) (kept : names_of new ≡ names_of old)
     (G : GoesOn next_to_finish old new given) (next : next_to_finish (names_of new) (named new) ≡ r) where
   abbrev o : NamedOpening
   o = names_of old

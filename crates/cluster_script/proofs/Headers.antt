@@ -6,7 +6,7 @@ use Rattle.term.specs.Spelling.{SpellsNodeName}
 use Rattle.command_lines.specs.Openings.{start_refused}
 use Rattle.command_lines.specs.declared.faults.LineFault.{LineFault}
 use Rattle.std.specs.Prelude.{if◌then◌else◌}
-use Rattle.cluster_world.specs.Held.{Held}
+use Rattle.cluster_world.specs.WorldState.{WorldState}
 use Rattle.std.specs.Prelude.{unwrap_or, is_some, codes, option_map, MatchResult, ◌⊎◌, ◌≢◌}
 use Rattle.term.specs.declared.faults.TextFault.{TextFault}
 use Rattle.command_lines.specs.declared.faults.LineFault.TheVariants.{BadLine, LineTooLong, NotAscii, Text, Start, Memory}
@@ -15,10 +15,10 @@ use Rattle.cluster_script.specs.Headers.{ReadsNodes, ReadsHeader, AllReadAs, Sta
 use Rattle.cluster_script.specs.declared.header.Cluster.{Cluster}
 use Rattle.cluster_script.specs.declared.header.Headers.{Headers}
 use Rattle.cluster_script.specs.declared.header.Headers.TheVariants.{Open, Ended, Refused}
-use Rattle.cluster_world.specs.Held.{Held}
+use Rattle.cluster_world.specs.WorldState.{WorldState}
 use Rattle.command_lines.specs.Commands.{LineAsks, asked_by, unread}
 use Rattle.text_lines.specs.Words.{words}
-use Rattle.command_lines.specs.declared.grammar.Task.{Task}
+use Rattle.command_lines.specs.declared.grammar.LineCommand.{LineCommand}
 use Rattle.command_lines.specs.Grammar.{ScriptLine}
 use Rattle.text_lines.specs.declared.faults.StreamFault.{StreamFault}
 use Rattle.text_lines.specs.Lines.{spoken, count_of_all, LosesLines}
@@ -145,7 +145,7 @@ LoneOpens-none cluster ls t e =
 -- a `lone` line opens a world, or is refused
 pub OpensLone-lone : (cluster line : List ℕ) (named : Result (List ℕ) LineFault)
     → ReadsHeader (lone_line line) (Some named)
-    → (r : Result Held LineFault) → StartsBeside cluster named r
+    → (r : Result WorldState LineFault) → StartsBeside cluster named r
     → MatchResult r (λ world. OpensLone cluster line (Open world None)) (λ f. OpensLone cluster line (Refused f))
 OpensLone-lone cluster line (Ok lone) h (Ok world) s = (
   lone,
@@ -155,19 +155,19 @@ OpensLone-lone cluster line (Ok lone) h (Ok world) s = (
 )
 OpensLone-lone cluster line (Ok lone) h (Err f) s = LoneOpens-refused cluster lone line f h s
 OpensLone-lone cluster line (Err f) h r s =
-    subst (λ (x : Result Held LineFault). MatchResult x (λ world. OpensLone cluster line (Open world None))
+    subst (λ (x : Result WorldState LineFault). MatchResult x (λ world. OpensLone cluster line (Open world None))
     (λ g. OpensLone cluster line (Refused g))) (sym s) (LoneOpens-misspelt cluster line f h)
 
--- what was read as a task, or memory was refused
-pub read_or_memory : (line : List ℕ) (task : Result Task LineFault) → (task ≢ Err Memory → LineAsks line (asked_by task))
-    → LineAsks line (asked_by task) ⊎ (asked_by task ≡ Err Memory)
+-- what was read as a command, or memory was refused
+pub read_or_memory : (line : List ℕ) (command : Result LineCommand LineFault) → (command ≢ Err Memory → LineAsks line (asked_by command))
+    → LineAsks line (asked_by command) ⊎ (asked_by command ≡ Err Memory)
 read_or_memory line (Ok t) h = inl (h ok_err)
   where
-    ok_err : ◌≡◌ {A = Result Task LineFault} (Ok t) (Err Memory) → ⊥
+    ok_err : ◌≡◌ {A = Result LineCommand LineFault} (Ok t) (Err Memory) → ⊥
     ok_err z = cc
 read_or_memory line (Err f) h = go f h
   where
-    go : (f : LineFault) → ((◌≡◌ {A = Result Task LineFault} (Err f) (Err Memory) → ⊥) → LineAsks line (Err f))
+    go : (f : LineFault) → ((◌≡◌ {A = Result LineCommand LineFault} (Err f) (Err Memory) → ⊥) → LineAsks line (Err f))
         → LineAsks line (Err f) ⊎ (◌≡◌ {A = Result ScriptLine LineFault} (Err f) (Err Memory))
     go BadLine h = inl (h (λ z. cc))
     go LineTooLong h = inl (h (λ z. cc))
@@ -177,15 +177,15 @@ read_or_memory line (Err f) h = go f h
     go Memory h = inr refl
 
 -- another line is the first that is played
-pub OpensLone-none : (cluster line : List ℕ) (world old : Held) (task : Result Task LineFault) → world ≡ old
+pub OpensLone-none : (cluster line : List ℕ) (world old : WorldState) (command : Result LineCommand LineFault) → world ≡ old
     → ReadsHeader (lone_line line) None → Starts cluster [] (Ok old)
-    → LineAsks line (asked_by task) ⊎ (asked_by task ≡ Err Memory)
-    → OpensLone cluster line (Open world (Some task))
-OpensLone-none cluster line world old task e h s q = (
+    → LineAsks line (asked_by command) ⊎ (asked_by command ≡ Err Memory)
+    → OpensLone cluster line (Open world (Some command))
+OpensLone-none cluster line world old command e h s q = (
   [],
   LoneOpens-none cluster (line ∷ []) (lone_none line h).0 s.0,
-  subst (λ (w : Held). StandsAt (opening_for cluster []) w) (sym e) s.1,
-  subst (λ (ls : List (List ℕ)). AllReadAs ls (asked_by task ∷ [])) (sym (lone_none line h).1) (q, tt),
+  subst (λ (w : WorldState). StandsAt (opening_for cluster []) w) (sym e) s.1,
+  subst (λ (ls : List (List ℕ)). AllReadAs ls (asked_by command ∷ [])) (sym (lone_none line h).1) (q, tt),
 )
 
 -- by its texts it opens one, or none

@@ -12,7 +12,7 @@ use Rattle.term.specs.Nodes.{text_in}
 use Rattle.cluster_world.specs.NodeNames.{NamedOpening, is_name, node_of, opening_of}
 use Rattle.cluster_world.specs.NamedWorld.{NamedWorld, present_node, has_started, next_node, named_refusal, accepted_named, happens_named, untold_or_spent, first_untold}
 use Rattle.cluster_world.specs.NamedScript.{outputs_of}
-use Rattle.cluster_world.specs.Held.{Held}
+use Rattle.cluster_world.specs.WorldState.{WorldState}
 use Rattle.cluster_world.specs.Playing.{Played}
 use Rattle.cluster_world.specs.Seen.{names_of, named}
 use Rattle.command_lines.specs.declared.Answer.{Answer}
@@ -47,7 +47,7 @@ module _ (o : NamedOpening) (w : NamedWorld) (x : ℕ) (e : AnyEvent) where
       go (Some r) = refl
 
 -- so it is played where it is played at that node
-module _ (old new : Held) (x : ℕ) (e : AnyEvent) (a b : Option (List ℕ)) where
+module _ (old new : WorldState) (x : ℕ) (e : AnyEvent) (a b : Option (List ℕ)) where
   abbrev by_node : NamedLine
   by_node = Play (AtNode (node_at old x) e)
 
@@ -96,7 +96,7 @@ module _ (old new : Held) (x : ℕ) (e : AnyEvent) (a b : Option (List ℕ)) whe
       asked_there r (subst (λ (m : ℕ). PlaysAsked (Ok (Scripted (Play (AtNode m e)))) old new a b r) same p)
 
 -- where there is no such name, there is no such node
-pub nobody : (h : Held) (x : ℕ) (e : AnyEvent) → is_name (names_of h) x ≡ false
+pub nobody : (h : WorldState) (x : ℕ) (e : AnyEvent) → is_name (names_of h) x ≡ false
     → named_refusal (names_of h) (named h) (At x e) ≡ Some (Plain NoSuchNode)
 nobody h x e k = go (has_started (names_of h) (named h) n) (has_started (names_of h) (named h) (other (PlainEvent.At n e)))
   where
@@ -116,7 +116,7 @@ nobody h x e k = go (has_started (names_of h) (named h) n) (has_started (names_o
     go true true = ap (option_map Plain) none
 
 -- A name came back: it is one of the world, whose node at present is the one that has started
-module _ (was h : Held) (x : ℕ) (given : List Answer) (p : Played (event.Restart x) was h [] given) where
+module _ (was h : WorldState) (x : ℕ) (given : List Answer) (p : Played (event.Restart x) was h [] given) where
   came_known : is_name (names_of h) (text_in x) ≡ true
   came_known = ap (λ (o : NamedOpening). is_name o (text_in x)) p.names ∙ go (is_name (names_of was) (text_in x)) p.accepted
     where
@@ -153,7 +153,7 @@ module _ (was h : Held) (x : ℕ) (given : List Answer) (p : Played (event.Resta
       ∙ sym (append-nil (output_line (Started (next_node (names_of was) (named was) (text_in x)))))
 
 -- so the line of that node is what is printed
-pub WritesOkay-started : {A E : Type 0} (h : Held) (a b : Option (List ℕ)) (r : Result A E) (e : WorldEvent) (x : ℕ)
+pub WritesOkay-started : {A E : Type 0} (h : WorldState) (a b : Option (List ℕ)) (r : Result A E) (e : WorldEvent) (x : ℕ)
     → e ≡ event.Restart x
     → (is_name (names_of h) (text_in x) ≡ true → Writes a b r (output_line (Started (node_at h x)))) → WritesOkay h a b r e
 WritesOkay-started {A = A} {E = E} h a b (Ok v) e x is w = λ was given p.

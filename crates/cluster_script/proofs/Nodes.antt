@@ -9,10 +9,10 @@ use Rattle.protocol_model.specs.World.{in_world}
 use Rattle.term.specs.Nodes.{IsFirst, text_in, name_of}
 use Rattle.term.specs.NodeSets.{set_of, names_in, IsNodeSet}
 use Rattle.boss_order.proofs.Sets.{nodes_of-set_of, set_of-item}
-use Rattle.cluster_world.specs.NodeCoreHeld.{AreOf}
+use Rattle.cluster_world.specs.NodeCoreState.{AreOf}
 use Rattle.cluster_world.specs.NodeNames.{NamedOpening, is_name, opening_of}
 use Rattle.cluster_world.specs.NamedWorld.{present_node}
-use Rattle.cluster_world.specs.Held.{Held, nodes_of as nodes_in}
+use Rattle.cluster_world.specs.WorldState.{WorldState, nodes_of as nodes_in}
 use Rattle.cluster_world.specs.Openings.{named_opening, name_bound, is_named_in, present_in, creation_in}
 use Rattle.cluster_world.specs.Seen.{names_of, named}
 use Rattle.cluster_world.specs.Starting.{Opens}
@@ -73,7 +73,7 @@ abbrev opening : ℕ → Nodes → Nodes → NamedOpening
 opening n s t = record { bound = n; names = s; cluster = t; last = last_u32 }
 
 -- what is held opened with the nodes that were named, in whatever order
-pub names_of-named : (cluster lone : List ℕ) (h : Held) → Opens cluster lone h → names_of h ≡ opening_for cluster lone
+pub names_of-named : (cluster lone : List ℕ) (h : WorldState) → Opens cluster lone h → names_of h ≡ opening_for cluster lone
 names_of-named cluster lone h o =
     ap (λ (n : ℕ). opening n (is_named_in (nodes_in h)) (is_named_in h.cluster))
     (name_bound-same (nodes_in h) (cluster ++ lone) o.nodes)
@@ -107,7 +107,7 @@ names_in-listed (m ∷ ms) x first = ap (λ (b : Bool). b || names_in ms x) same
     ]
 
 -- so it is one of the world where it is listed
-pub known_name : (h : Held) (x : ℕ) → IsFirst x → names_in (nodes_in h) x ≡ is_name (names_of h) (text_in x)
+pub known_name : (h : WorldState) (x : ℕ) → IsFirst x → names_in (nodes_in h) x ≡ is_name (names_of h) (text_in x)
 known_name h x first = names_in-listed (nodes_in h) x first ∙ sym (is_name-listed (nodes_in h) h.cluster (text_in x))
 
 -- a name that isn't listed has the first creation
@@ -121,7 +121,7 @@ unlisted nodes x h = ap creation_in (none nodes h)
         rw parts.0 (none ms parts.1)
 
 -- where a name isn't one of the world, neither is its node
-pub stranger : (h : Held) (x : ℕ) → is_name (names_of h) x ≡ false
+pub stranger : (h : WorldState) (x : ℕ) → is_name (names_of h) x ≡ false
     → in_world (opening_of (names_of h)) (present_node (names_of h) (named h) x) ≡ false
 stranger h x e =
     ap (λ (b : Bool). nat_lt (present_node (names_of h) (named h) x) (opening_of (names_of h)).bound && b)
@@ -138,7 +138,7 @@ stranger h x e =
     named_x = omega (arith, first)
 
 -- a rising list of nodes of the world is the one of its set
-pub nodes_of-listed : (h : Held) (xs : List ℕ) (s : Nodes) → IsNodeSet xs → AreOf (nodes_in h) xs → set_of xs ≡ s
+pub nodes_of-listed : (h : WorldState) (xs : List ℕ) (s : Nodes) → IsNodeSet xs → AreOf (nodes_in h) xs → set_of xs ≡ s
     → nodes_of (opening_of (names_of h)).bound s ≡ xs
 nodes_of-listed h xs s set within e = ap (nodes_of (opening_of (names_of h)).bound) (sym e)
     ∙ nodes_of-set_of (opening_of (names_of h)).bound xs set.rising below

@@ -8,7 +8,7 @@ use Rattle.protocol_model.specs.NamedEvents.{NamedEvent, At, AtNode, Deliver, Re
 use Rattle.cluster_world.specs.NodeNames.{NamedOpening}
 use Rattle.cluster_world.specs.NamedWorld.{NamedWorld, named_refusal, happens_named, accepted_named, named_answers}
 use Rattle.cluster_world.specs.NamedScript.{outputs_of, okay}
-use Rattle.cluster_world.specs.Held.{Held}
+use Rattle.cluster_world.specs.WorldState.{WorldState}
 use Rattle.cluster_world.specs.Playing.{Played}
 use Rattle.cluster_world.specs.Seen.{names_of, named}
 use Rattle.command_lines.specs.Events.{named_event}
@@ -61,7 +61,7 @@ okay-fine o w (AtNode n e) given = own e
 okay-fine o w (Deliver f t) given = Said-fine given
 okay-fine o w (Restart x) given = Said-fine given
 
-module _ (h : Held) (e : NamedEvent) where
+module _ (h : WorldState) (e : NamedEvent) where
   -- what is printed for an accepted event
   pub shown-accepted : named_refusal (names_of h) (named h) e ≡ None
       → shown (names_of h) (named h) (Plays (Play e))
@@ -83,7 +83,7 @@ module _ (h : Held) (e : NamedEvent) where
       ap (λ (x : Option NamedRefusal). if is_none x then accepted_named (names_of h) (named h) e else named h) q
 
 -- the text of an accepted event
-pub text-accepted : (old new : Held) (e : WorldEvent) (given : List Answer) → Played e old new [] given
+pub text-accepted : (old new : WorldState) (e : WorldEvent) (given : List Answer) → Played e old new [] given
     → okay_text old e ++ answers_text (map answer_of given) ≡ shown_on old (Plays (Play (named_event e)))
 text-accepted old new e given p =
     ap (λ (ss : List AnyAnswer). okay_text old e ++ answers_text ss) p.answers
@@ -92,7 +92,7 @@ text-accepted old new e given p =
     ∙ ap shown_text (sym (shown-accepted old (named_event e) p.accepted))
 
 -- an accepted event is played
-pub play-accepted : (old new : Held) (e : WorldEvent) (given : List Answer) (a b : Option (List ℕ))
+pub play-accepted : (old new : WorldState) (e : WorldEvent) (given : List Answer) (a b : Option (List ℕ))
     → Played e old new [] given
     → Appends a b (okay_text old e ++ answers_text (map answer_of given))
     → PlaysLine old new (Plays (Play (named_event e))) a b true
@@ -105,13 +105,13 @@ play-accepted old new e given a b p w = record {
 }
 
 -- the text of a refused event
-pub text-refused : (old : Held) (e : NamedEvent) (r : NamedRefusal) → named_refusal (names_of old) (named old) e
+pub text-refused : (old : WorldState) (e : NamedEvent) (r : NamedRefusal) → named_refusal (names_of old) (named old) e
     ≡ Some r
     → error_line (refusal_word r) ≡ shown_on old (Plays (Play e))
 text-refused old e r q = sym (append-nil (error_line (refusal_word r))) ∙ ap shown_text (sym (shown-refused old e r q))
 
 -- a refused event changes nothing
-pub play-refused : (old new : Held) (e : NamedEvent) (r : NamedRefusal) (a b : Option (List ℕ))
+pub play-refused : (old new : WorldState) (e : NamedEvent) (r : NamedRefusal) (a b : Option (List ℕ))
     → named_refusal (names_of old) (named old) e ≡ Some r
     → names_of new ≡ names_of old → named new ≡ named old → Appends a b (error_line (refusal_word r))
     → PlaysLine old new (Plays (Play e)) a b false
@@ -123,11 +123,11 @@ play-refused old new e r a b q o n w = record {
 }
 
 -- the text of a line that isn't played
-pub text-fault : (h : Held) (f : LineFault) → error_line (word_of f) ≡ shown_on h (Fails f)
+pub text-fault : (h : WorldState) (f : LineFault) → error_line (word_of f) ≡ shown_on h (Fails f)
 text-fault h f = sym (append-nil (error_line (word_of f)))
 
 -- a line that isn't played changes nothing
-pub play-fault : (old new : Held) (f : LineFault) (a b : Option (List ℕ)) → names_of new ≡ names_of old
+pub play-fault : (old new : WorldState) (f : LineFault) (a b : Option (List ℕ)) → names_of new ≡ names_of old
     → named new ≡ named old → Appends a b (error_line (word_of f)) → PlaysLine old new (Fails f) a b false
 play-fault old new f a b o n w = record {
   opening = o;
@@ -137,7 +137,7 @@ play-fault old new f a b o n w = record {
 }
 
 -- memory is refused for a line, whatever it asks for
-pub refused-memory : (asked : Result ScriptLine LineFault) (old new : Held) (a b : Option (List ℕ))
+pub refused-memory : (asked : Result ScriptLine LineFault) (old new : WorldState) (a b : Option (List ℕ))
     (r : Result Bool WriteFault)
     → names_of new ≡ names_of old → named new ≡ named old → Writes a b r (error_line (word_of Memory))
     → IfOk r (λ fine. fine ≡ false) → PlaysAsked asked old new a b r
@@ -151,7 +151,7 @@ refused-memory asked old new a b (Err f) o n w e =
     (Fails Memory, inr refl, subst (λ (t : List ℕ). AppendsPart a b t) (text-fault old Memory) w)
 
 -- an event for which there is a refusal: memory is refused where the protocol has none
-module _ (old new : Held) (e : NamedEvent) (o : names_of new ≡ names_of old) (n : named new ≡ named old) where
+module _ (old new : WorldState) (e : NamedEvent) (o : names_of new ≡ names_of old) (n : named new ≡ named old) where
   pub event-refused : (r : Option NamedRefusal) → named_refusal (names_of old) (named old) e ≡ r
       → (a b : Option (List ℕ)) → Appends a b (error_line (word_for r))
       → PlaysAsked (Ok (Scripted (Play e))) old new a b (Ok false)

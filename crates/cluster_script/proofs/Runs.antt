@@ -8,7 +8,7 @@ use Rattle.cluster_world.specs.NodeNames.{NamedOpening}
 use Rattle.cluster_world.specs.NamedWorld.{NamedWorld}
 use Rattle.protocol_model.specs.NamedEvents.{Settle}
 use Rattle.command_lines.specs.Grammar.{ScriptLine, Scripted, Finish}
-use Rattle.cluster_world.specs.Held.{Held}
+use Rattle.cluster_world.specs.WorldState.{WorldState}
 use Rattle.cluster_world.specs.Seen.{names_of, named}
 use Rattle.command_lines.specs.declared.faults.LineFault.{LineFault}
 use Rattle.command_lines.specs.declared.faults.LineFault.TheVariants.{Memory}
@@ -25,7 +25,7 @@ use Rattle.cluster_script.proofs.Agreeing.{lines_agree, lines_leave_nothing}
 use Rattle.cluster_script.specs.Script.{Outcome, Plays, Fails, Breaks, Finishes, ComesTo, AllComeTo, shown_all, Prints, PrintsOn, PrintsSpoken, OpensNone, EndsRefused, Ran, Stopped, StoppedBetween, StoppedWithin, LineOpens, lone_line, played, opening_for}
 use Rattle.cluster_script.specs.Headers.{AllReadAs, OpensHeaders, OpensLone, StopsOpening, asked_first}
 use Rattle.cluster_script.specs.declared.header.Headers.TheVariants.{Open, Ended}
-use Rattle.command_lines.specs.declared.grammar.Task.{Task}
+use Rattle.command_lines.specs.declared.grammar.LineCommand.{LineCommand}
 use Rattle.cluster_script.specs.Played.{ComesOf, AllComeOf, StopsPlaying, PlaysSome, PlaysAll}
 use Rattle.std.proofs.KnownBytes.{Appends-nil, Appends-trans, Appends-kept}
 use Rattle.text_lines.proofs.Known.{GoesPast-behind, LosesInto-whole, LosesInto-behind, LosesLines-trans, LosesLines-all, MayEndIn-none, spoken-append, count_of_all-append}
@@ -223,9 +223,9 @@ module _ (input rest : Option (List ℕ)) (most left : ℕ) (bound : most ≤ MO
     }
 
   -- the headers open a world, on which the other lines are played
-  module _ (line m cluster : List ℕ) (s : spoken ls ≡ line ∷ m ∷ []) (o : LineOpens line (Ok cluster)) (world : Held)
-      (task : Option (Result Task LineFault)) (q : OpensLone cluster m (Open world task)) (first : List Outcome)
-      (came : AllComeOf (asked_first task) first) where
+  module _ (line m cluster : List ℕ) (s : spoken ls ≡ line ∷ m ∷ []) (o : LineOpens line (Ok cluster)) (world : WorldState)
+      (command : Option (Result LineCommand LineFault)) (q : OpensLone cluster m (Open world command)) (first : List Outcome)
+      (came : AllComeOf (asked_first command) first) where
     -- what the lines print
     abbrev text : List Outcome → List Shown
     text outcomes = shown_all (names_of world) (named world) (first ++ outcomes)
@@ -237,7 +237,7 @@ module _ (input rest : Option (List ℕ)) (most left : ℕ) (bound : most ≤ MO
       (Ok cluster, o, (Ok q.0, q.1, refl)),
       (
         first ++ outcomes,
-        AllComeTo-played m (spoken ms) (asked_first task) first outcomes q.3 came h,
+        AllComeTo-played m (spoken ms) (asked_first command) first outcomes q.3 came h,
         ap (λ (p : NamedOpening). shown_all p (named world) (first ++ outcomes)) q.2.0
             ∙ ap (λ (w : NamedWorld). shown_all (opening_for cluster q.0) w (first ++ outcomes)) q.2.1,
         lines_agree (opening_for cluster q.0) (first ++ outcomes),
@@ -295,7 +295,7 @@ module _ (input rest : Option (List ℕ)) (most left : ℕ) (bound : most ≤ MO
       Stopped-played fault.Write p n = (StoppedWithin-played p.0, p.1)
       Stopped-played fault.Memory p n = (StoppedWithin-played p.0, p.1)
 
-      pub Ran-played : (new : Held) (left2 : ℕ) (r : Result Bool StreamFault) → most ≡ MOST_LINES
+      pub Ran-played : (new : WorldState) (left2 : ℕ) (r : Result Bool StreamFault) → most ≡ MOST_LINES
           → PlaysAll first rest last left left2 world new x b r
           → MatchResult r (Ran input last a b) (Stopped input last a b)
       Ran-played new left2 (Ok fine) n p = record {
@@ -316,14 +316,14 @@ module _ (input rest : Option (List ℕ)) (most left : ℕ) (bound : most ≤ MO
       Ran-played new left2 (Err f) n p = Stopped-played f p n
 
 -- headers that open a world are a `cluster` line and the line behind it
-pub opened_by : (ls : List (List ℕ)) (rest : Option (List ℕ)) (world : Held) (task : Option (Result Task LineFault))
-    → OpensHeaders ls rest (Open world task)
+pub opened_by : (ls : List (List ℕ)) (rest : Option (List ℕ)) (world : WorldState) (command : Option (Result LineCommand LineFault))
+    → OpensHeaders ls rest (Open world command)
     → (line : List ℕ) × (m : List ℕ) × (cluster : List ℕ) × (ls ≡ line ∷ m ∷ []) × LineOpens line (Ok cluster)
-    × OpensLone cluster m (Open world task)
-opened_by [] rest world task o = absurd o
-opened_by (l ∷ []) rest world task o = absurd o
-opened_by (l ∷ m ∷ []) rest world task o = (l, m, o.0, refl, o.1, o.2)
-opened_by (l ∷ m ∷ k ∷ ls) rest world task o = absurd o
+    × OpensLone cluster m (Open world command)
+opened_by [] rest world command o = absurd o
+opened_by (l ∷ []) rest world command o = absurd o
+opened_by (l ∷ m ∷ []) rest world command o = (l, m, o.0, refl, o.1, o.2)
+opened_by (l ∷ m ∷ k ∷ ls) rest world command o = absurd o
 
 -- what the exit of a `?` says of a script
 pub Stopped-err : (input rest a b : Option (List ℕ)) (r : Result Bool StreamFault) (y : StreamFault) → r ≡ Err y

@@ -7,7 +7,7 @@ use Rattle.std.specs.Io.KnownBytes.{Appends, Keeps}
 use Rattle.std.proofs.KnownBytes.{Appends-trans, Appends-nil, Appends-kept}
 use Rattle.cluster_world.specs.NodeNames.{NamedOpening}
 use Rattle.cluster_world.specs.NamedWorld.{NamedWorld}
-use Rattle.cluster_world.specs.Held.{Held}
+use Rattle.cluster_world.specs.WorldState.{WorldState}
 use Rattle.cluster_world.specs.Seen.{names_of, named}
 use Rattle.text_lines.specs.declared.faults.StreamFault.{StreamFault}
 use Rattle.text_lines.specs.declared.faults.StreamFault.TheVariants as fault
@@ -51,7 +51,7 @@ module _ (o : NamedOpening) where
       (shown o (behind_all o (behind o w y) outcomes) x))
 
 -- no line was played yet
-pub PlaysLines-start : (input : Option (List ℕ)) (most : ℕ) (old : Held) (a : Option (List ℕ))
+pub PlaysLines-start : (input : Option (List ℕ)) (most : ℕ) (old : WorldState) (a : Option (List ℕ))
     → PlaysLines [] input input most most old old a a true
 PlaysLines-start input most old a = record {
   taken = [];
@@ -65,7 +65,7 @@ PlaysLines-start input most old a = record {
   fine_is = refl;
 }
 
-module _ (input mid : Option (List ℕ)) (most l1 : ℕ) (old h1 : Held) (a b : Option (List ℕ)) (fine : Bool)
+module _ (input mid : Option (List ℕ)) (most l1 : ℕ) (old h1 : WorldState) (a b : Option (List ℕ)) (fine : Bool)
     (P : PlaysLines [] input mid most l1 old h1 a b fine) where
   -- what one more line prints
   pub text-push : (outcome : Outcome)
@@ -139,7 +139,7 @@ module _ (input mid : Option (List ℕ)) (most l1 : ℕ) (old h1 : Held) (a b : 
     }
 
     -- a line is played
-    pub PlaysLines-next : (l2 : ℕ) (h2 : Held) (c : Option (List ℕ)) (fine2 : Bool) → l1 ≡ l2 + count_of_all ls
+    pub PlaysLines-next : (l2 : ℕ) (h2 : WorldState) (c : Option (List ℕ)) (fine2 : Bool) → l1 ≡ l2 + count_of_all ls
         → PlaysLine h1 h2 outcome b c fine2
         → PlaysLines [] input rest most l2 old h2 a c (fine && fine2)
     PlaysLines-next l2 h2 c fine2 e p = record {
@@ -166,12 +166,12 @@ module _ (input mid : Option (List ℕ)) (most l1 : ℕ) (old h1 : Held) (a b : 
 
 -- what the exit of a `?` says of lines
 pub PlaysAll-err : (first : List Outcome) (input rest : Option (List ℕ)) (most left : ℕ) (old new
-    : Held) (a b : Option (List ℕ)) (r : Result Bool StreamFault) (y : StreamFault)
+    : WorldState) (a b : Option (List ℕ)) (r : Result Bool StreamFault) (y : StreamFault)
     → r ≡ Err y → StopsPlaying first input rest most old a b y → PlaysAll first input rest most left old new a b r
 PlaysAll-err first input rest most left old new a b r y e p = rw e p
 
 -- what was written stays
-pub PlaysLines-kept : (input rest : Option (List ℕ)) (most left : ℕ) (old new : Held) (a b c : Option (List ℕ)) (fine
+pub PlaysLines-kept : (input rest : Option (List ℕ)) (most left : ℕ) (old new : WorldState) (a b c : Option (List ℕ)) (fine
     : Bool) → PlaysLines [] input rest most left old new a b fine → Keeps b c
     → PlaysLines [] input rest most left old new a c fine
 PlaysLines-kept input rest most left old new a b c fine p k = record {
@@ -187,7 +187,7 @@ PlaysLines-kept input rest most left old new a b c fine p k = record {
 }
 
 -- empty lines are read
-pub PlaysLines-blank : (input mid rest : Option (List ℕ)) (most l1 l2 : ℕ) (old h1 : Held) (a b : Option (List ℕ))
+pub PlaysLines-blank : (input mid rest : Option (List ℕ)) (most l1 l2 : ℕ) (old h1 : WorldState) (a b : Option (List ℕ))
     (fine : Bool) (P : PlaysLines [] input mid most l1 old h1 a b fine)
     (ls : List (List ℕ)) → spoken ls ≡ [] → LosesLines mid rest ls → l1 ≡ l2 + count_of_all ls
     → PlaysLines [] input rest most l2 old h1 a b fine
@@ -205,7 +205,7 @@ PlaysLines-blank input mid rest most l1 l2 old h1 a b fine P ls s t e = record {
 
 -- a text wasn't written, or memory was refused
 pub StopsPlaying-writing : (first : List Outcome) (input rest : Option (List ℕ)) (most : ℕ) (old :
-    Held) (a b : Option (List ℕ)) (f : WriteFault) (y : StreamFault) → y ≡ stop_of f
+    WorldState) (a b : Option (List ℕ)) (f : WriteFault) (y : StreamFault) → y ≡ stop_of f
     → (p : PlaysSome AppendsPart first input rest old a b) → p.part ≡ [] → StopsPlaying first input rest most old a b y
 StopsPlaying-writing first input rest most old a b write.Writer y e p n =
     subst (λ (g : StreamFault). StopsPlaying first input rest most old a b g) (sym e) (
@@ -221,7 +221,7 @@ StopsPlaying-writing first input rest most old a b write.Memory y e p n =
     )
 
 -- a fault comes while the line is played that was read already
-abbrev pub PlaysSome-first : (input : Option (List ℕ)) (old : Held) (outcome : Outcome)
+abbrev pub PlaysSome-first : (input : Option (List ℕ)) (old : WorldState) (outcome : Outcome)
     (a b : Option (List ℕ)) → AppendsPart a b (shown_on old outcome)
     → PlaysSome AppendsPart (outcome ∷ []) input input old a b
 PlaysSome-first input old outcome a b p = record {
@@ -235,7 +235,7 @@ PlaysSome-first input old outcome a b p = record {
 }
 
 -- the line that was read already is played, and others behind it
-module _ (input rest : Option (List ℕ)) (old mid : Held) (outcome : Outcome) (a b c : Option (List ℕ))
+module _ (input rest : Option (List ℕ)) (old mid : WorldState) (outcome : Outcome) (a b c : Option (List ℕ))
     (fine : Bool) (L : PlaysLine old mid outcome a b fine) where
   -- what they print
   text-behind : (others : List Outcome)
@@ -283,7 +283,7 @@ module _ (input rest : Option (List ℕ)) (old mid : Held) (outcome : Outcome) (
   StopsPlaying-behind most fault.Memory p = (PlaysSome-less p.0, p.1)
 
   -- the others are played
-  pub PlaysLines-behind : (most left : ℕ) (new : Held) (fine2 : Bool)
+  pub PlaysLines-behind : (most left : ℕ) (new : WorldState) (fine2 : Bool)
       → PlaysLines [] input rest most left mid new b c fine2
       → PlaysLines (outcome ∷ []) input rest most left old new a c (fine && fine2)
   PlaysLines-behind most left new fine2 p = record {

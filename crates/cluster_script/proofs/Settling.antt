@@ -11,7 +11,7 @@ use Rattle.protocol_model.specs.NamedEvents.{NamedOutput, Settle, Said}
 use Rattle.cluster_world.specs.NodeNames.{NamedOpening}
 use Rattle.cluster_world.specs.NamedWorld.{NamedWorld, NamedEvent, happens_named, named_answers, run_named}
 use Rattle.cluster_world.specs.NamedScript.{named_deliveries_left, next_named, settled}
-use Rattle.cluster_world.specs.Held.{Held}
+use Rattle.cluster_world.specs.WorldState.{WorldState}
 use Rattle.cluster_world.specs.Seen.{names_of, named}
 use Rattle.command_lines.specs.Events.{named_event}
 use Rattle.command_lines.specs.NodeEventsSeen.{answer_of}
@@ -69,7 +69,7 @@ module _ (o : NamedOpening) where
           ∙ ap (λ (es : List NamedEvent). es ++ e ∷ []) (sym first)
 
 -- k deliveries were made and their answers written; the others are those that the world makes as it stands
-pub record Settles (k : ℕ) (old now : Held) (a b : Option (List ℕ)) : Type 0 where
+pub record Settles (k : ℕ) (old now : WorldState) (a b : Option (List ℕ)) : Type 0 where
   pub most : ℕ
   pub given : List AnyAnswer
   pub counted : most + k ≡ SETTLE_LIMIT
@@ -103,7 +103,7 @@ answers_text-append (x ∷ xs) ys =
     ∙ sym (append_assoc (output_line (Said x)) (answers_text xs) (answers_text ys))
 
 -- no delivery was made yet
-pub Settles-start : (old : Held) (a : Option (List ℕ)) → Settles 0 old old a a
+pub Settles-start : (old : WorldState) (a : Option (List ℕ)) → Settles 0 old old a a
 Settles-start old a = record {
   most = SETTLE_LIMIT;
   given = [];
@@ -117,7 +117,7 @@ Settles-start old a = record {
   wrote = Appends-nil a;
 }
 
-module _ (k : ℕ) (old now : Held) (a b : Option (List ℕ)) (S : Settles k old now a b) where
+module _ (k : ℕ) (old now : WorldState) (a b : Option (List ℕ)) (S : Settles k old now a b) where
   -- there is one more to make
   pub most-next : k < SETTLE_LIMIT → (m : ℕ) × (S.most ≡ suc m)
   most-next l = go S.most refl
@@ -154,7 +154,7 @@ module _ (k : ℕ) (old now : Held) (a b : Option (List ℕ)) (S : Settles k old
     one_more n = omega arith
 
     -- the next delivery was made
-    pub Settles-next : (new : Held) (c : Option (List ℕ)) → names_of new ≡ names_of now → named new
+    pub Settles-next : (new : WorldState) (c : Option (List ℕ)) → names_of new ≡ names_of now → named new
         ≡ happens_named (names_of now) (named now) e
         → Appends b c (answers_text (named_answers (names_of now) (named now) e)) → Settles (k + 1) old new a c
     Settles-next new c n q w =
@@ -213,19 +213,19 @@ Ended-fine [] x = and-true (is_fine x)
 Ended-fine (s ∷ given) x = Ended-fine given x
 
 -- what `settle` prints
-pub settle-text : (h : Held) → shown_on h (Plays Settle)
+pub settle-text : (h : WorldState) → shown_on h (Plays Settle)
     ≡ answers_text (given_in (names_of h) (named h) (named_deliveries_left (names_of h) settle_limit (named h)))
     ++ output_line (ends_at (names_of h) (run_named (names_of h) (named h) (named_deliveries_left (names_of h) settle_limit (named h))))
 settle-text h = Said-text-last (given_in (names_of h) (named h) (named_deliveries_left (names_of h) settle_limit (named h)))
     (ends_at (names_of h) (run_named (names_of h) (named h) (named_deliveries_left (names_of h) settle_limit (named h))))
 
 -- how it ends, by the link on which a letter waits
-pub settled-waits : (r : Option (ℕ × ℕ)) (h : Held) → WaitsOn r h → ends_at (names_of h) (named h)
+pub settled-waits : (r : Option (ℕ × ℕ)) (h : WorldState) → WaitsOn r h → ends_at (names_of h) (named h)
     ≡ settle_end (is_none r)
 settled-waits None h w = ap (settled (names_of h)) w
 settled-waits (Some p) h w = ap (settled (names_of h)) w
 
-module _ (k : ℕ) (old now : Held) (a b : Option (List ℕ)) (S : Settles k old now a b) where
+module _ (k : ℕ) (old now : WorldState) (a b : Option (List ℕ)) (S : Settles k old now a b) where
   -- a fault while the answers of the next delivery were written
   pub settle-stopped : (e : NamedEvent) → next_named (names_of now) (named now) ≡ Some e → k < SETTLE_LIMIT
       → (c : Option (List ℕ))
@@ -309,7 +309,7 @@ module _ (k : ℕ) (old now : Held) (a b : Option (List ℕ)) (S : Settles k old
     within : k < settle_limit
     within = subst (λ (n : ℕ). k < n) (sym settle_limit-is) l
 
-    pub settle-broken : (new : Held) (c d : Option (List ℕ)) → names_of new ≡ names_of now → named new ≡ named now
+    pub settle-broken : (new : WorldState) (c d : Option (List ℕ)) → names_of new ≡ names_of now → named new ≡ named now
         → c ≡ b → (r : Result Bool WriteFault) → Writes c d r (error_line (word_of Memory))
         → IfOk r (λ fine. fine ≡ false) → PlaysAsked (Ok (Scripted Settle)) old new a d r
     settle-broken new c d o n same (Err f) w q = (
@@ -333,7 +333,7 @@ module _ (k : ℕ) (old now : Held) (a b : Option (List ℕ)) (S : Settles k old
     )
 
 -- the answers of an event that was played were written, or a part of them
-module _ (old new : Held) (e : WorldEvent) (given : List Answer) (a b : Option (List ℕ)) (p : Played e old new [] given) where
+module _ (old new : WorldState) (e : WorldEvent) (given : List Answer) (a b : Option (List ℕ)) (p : Played e old new [] given) where
   pub answers-written : Appends a b (answers_text (map answer_of given))
       → Appends a b (answers_text (named_answers (names_of old) (named old) (named_event e)))
   answers-written w = subst (λ (ss : List AnyAnswer). Appends a b (answers_text ss)) p.answers w
@@ -349,7 +349,7 @@ is_none-by None false e = sym e
 is_none-by (Some v) true e = sym e
 is_none-by (Some v) false e = refl
 
-module _ (k : ℕ) (old now : Held) (a b : Option (List ℕ)) (S : Settles k old now a b) where
+module _ (k : ℕ) (old now : WorldState) (a b : Option (List ℕ)) (S : Settles k old now a b) where
   -- no letter waits
   pub none_waits : next_named (names_of now) (named now) ≡ None → named_deliveries_left (names_of old) S.most (named now) ≡ []
   none_waits h = settle-none (names_of old) S.most (named now)

@@ -11,10 +11,10 @@ use Rattle.protocol_model.specs.World.{left}
 use Rattle.protocol_model.specs.NamedEvents.{Plain, NamedLine, NamedOutput, Error, TableIs, MembersAre}
 use Rattle.term.specs.Nodes.{text_in}
 use Rattle.term.specs.NodeSets.{set_of, IsNodeSet}
-use Rattle.cluster_world.specs.NodeCoreHeld.{AreOf}
+use Rattle.cluster_world.specs.NodeCoreState.{AreOf}
 use Rattle.cluster_world.specs.NodeNames.{is_name}
 use Rattle.cluster_world.specs.NamedScript.{shown_at}
-use Rattle.cluster_world.specs.Held.{Held, nodes_of as nodes_in}
+use Rattle.cluster_world.specs.WorldState.{WorldState, nodes_of as nodes_in}
 use Rattle.cluster_world.specs.Seen.{names_of, named}
 use Rattle.command_lines.specs.Grammar.{Scripted}
 use Rattle.command_lines.specs.Printing.{output_line, error_line, refusal_word, is_fine, is_fine_output, shown_text, Shown, Shows}
@@ -25,7 +25,7 @@ use Rattle.cluster_script.specs.Played.{IsShown, PlaysAsked, shown_on, text_for,
 use Rattle.cluster_script.proofs.Nodes.{nodes_of-listed}
 use Rattle.cluster_script.proofs.Playing.{refused-memory}
 
-module _ (h : Held) (x : ℕ) (output : NamedOutput) where
+module _ (h : WorldState) (x : ℕ) (output : NamedOutput) where
   -- what is shown, by whether there is such a name, and its node has left
   abbrev by : Bool → Bool → NamedOutput
   by known gone = if not known then Error (Plain NoSuchNode) else (if gone then Error (Plain NodeLeft) else output)
@@ -63,18 +63,18 @@ module _ (h : Held) (x : ℕ) (output : NamedOutput) where
       }
 
 -- the node of a name has left, or stays
-pub left_at : (h : Held) (x n : ℕ) (b : Bool) → n ≡ node_at h x → left (named h).world n ≡ b → left (named h).world (node_at h x) ≡ b
+pub left_at : (h : WorldState) (x n : ℕ) (b : Bool) → n ≡ node_at h x → left (named h).world n ≡ b → left (named h).world (node_at h x) ≡ b
 left_at h x n b e g = ap (λ (m : ℕ). left (named h).world m) (sym e) ∙ g
 
 -- its table is shown
-pub IsShown-table : (h : Held) (x n : ℕ) (t : Table) (line : List ℕ) → is_name (names_of h) (text_in x) ≡ true
+pub IsShown-table : (h : WorldState) (x n : ℕ) (t : Table) (line : List ℕ) → is_name (names_of h) (text_in x) ≡ true
     → n ≡ node_at h x → left (named h).world n ≡ false → t ≡ ((named h).world.node n).replica.table
     → line ≡ output_line (TableIs t) → IsShown h x (table_of h x) (Some line)
 IsShown-table h x n t line k e g q l = IsShown-some h x (table_of h x) line k (left_at h x n false e g) refl
     (l ∙ ap (λ (u : Table). output_line (TableIs u)) (q ∙ ap (λ (m : ℕ). ((named h).world.node m).replica.table) e))
 
 -- its members are shown
-pub IsShown-members : (h : Held) (x n : ℕ) (xs : List ℕ) (line : List ℕ) → is_name (names_of h) (text_in x) ≡ true
+pub IsShown-members : (h : WorldState) (x n : ℕ) (xs : List ℕ) (line : List ℕ) → is_name (names_of h) (text_in x) ≡ true
     → n ≡ node_at h x → left (named h).world n ≡ false → IsNodeSet xs → AreOf (nodes_in h) xs
     → set_of xs ≡ ((named h).world.node n).replica.members → line ≡ output_line (MembersAre xs)
     → IsShown h x (members_of h x) (Some line)
@@ -85,7 +85,7 @@ IsShown-members h x n xs line k e g set within q l =
     (q ∙ ap (λ (m : ℕ). ((named h).world.node m).replica.members) e))))
 
 -- a line that prints one output and plays nothing was played, where that was written
-module _ (h : Held) (l : NamedLine) (x : NamedOutput) (s : shown (names_of h) (named h) (Plays l) ≡ Shows x ∷ [])
+module _ (h : WorldState) (l : NamedLine) (x : NamedOutput) (s : shown (names_of h) (named h) (Plays l) ≡ Shows x ∷ [])
     (same : behind (names_of h) (named h) (Plays l) ≡ named h) (a b : Option (List ℕ)) where
   text_of : output_line x ≡ shown_on h (Plays l)
   text_of = sym (append-nil (output_line x)) ∙ sym (ap shown_text s)
@@ -105,7 +105,7 @@ module _ (h : Held) (l : NamedLine) (x : NamedOutput) (s : shown (names_of h) (n
   )
 
 -- what is shown of a name's node was written, or why it isn't
-pub PlaysAsked-node : {E : Type 0} (h : Held) (x : ℕ) (output : NamedOutput) (l : NamedLine) (line : Result (Option (String Global)) E)
+pub PlaysAsked-node : {E : Type 0} (h : WorldState) (x : ℕ) (output : NamedOutput) (l : NamedLine) (line : Result (Option (String Global)) E)
     → shown (names_of h) (named h) (Plays l) ≡ Shows (shown_at (names_of h) (named h) (text_in x) output) ∷ []
     → behind (names_of h) (named h) (Plays l) ≡ named h
     → (old new : Option (List ℕ)) (r : Result Bool WriteFault)

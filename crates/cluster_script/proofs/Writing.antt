@@ -5,7 +5,7 @@ use Rattle.text_lines.proofs.Written.{AppendsPart-behind, AppendsPart-more}
 use Rattle.std.proofs.lemmas.List.{take-append-drop}
 use Rattle.std.proofs.lemmas.Grind.{take_at_read}
 use Rattle.protocol_model.specs.NamedEvents.{Said}
-use Rattle.cluster_world.specs.Held.{Held}
+use Rattle.cluster_world.specs.WorldState.{WorldState}
 use Rattle.command_lines.specs.NodeEventsSeen.{answer_of}
 use Rattle.command_lines.specs.declared.Answer.{Answer}
 use Rattle.command_lines.specs.declared.faults.LineFault.{LineFault}
@@ -17,7 +17,7 @@ use Rattle.cluster_script.specs.Played.{PlaysAsked, ComesOf, shown_on}
 use Rattle.text_lines.specs.Writing.{AppendsPart}
 
 -- what the exit of a `?` says of a line that is played
-pub PlaysAsked-err : (old new : Held) (asked : Result ScriptLine LineFault) (outcome : Outcome) (a b : Option (List ℕ))
+pub PlaysAsked-err : (old new : WorldState) (asked : Result ScriptLine LineFault) (outcome : Outcome) (a b : Option (List ℕ))
     (r : Result Bool WriteFault) (y : WriteFault)
     → r ≡ Err y → ComesOf asked outcome → AppendsPart a b (shown_on old outcome) → PlaysAsked asked old new a b r
 PlaysAsked-err old new asked outcome a b r y e q p = (outcome, q, rw e p)

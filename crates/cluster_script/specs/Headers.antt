@@ -1,7 +1,7 @@
 -- What it comes to that the headers of a script are read.
 use Rattle.std.specs.Prelude.{ℕ, ◌≡◌, ◌⊎◌, ◌+◌, List, [], ◌∷◌, map, option_to_list, Option, Some, None, Result, Ok, Err}
 use Rattle.term.specs.declared.faults.TextFault.{TextFault}
-use Rattle.cluster_world.specs.Held.{Held}
+use Rattle.cluster_world.specs.WorldState.{WorldState}
 use Rattle.cluster_world.specs.NodeNames.{NamedOpening}
 use Rattle.cluster_world.specs.NamedWorld.{opening_named}
 use Rattle.cluster_world.specs.Seen.{names_of, named}
@@ -10,7 +10,7 @@ use Rattle.command_lines.specs.declared.StartFault.{StartFault}
 use Rattle.command_lines.specs.declared.faults.LineFault.{LineFault}
 use Rattle.command_lines.specs.declared.faults.LineFault.TheVariants.{Text, Start, Memory}
 use Rattle.text_lines.specs.declared.faults.StreamFault.{StreamFault}
-use Rattle.command_lines.specs.declared.grammar.Task.{Task}
+use Rattle.command_lines.specs.declared.grammar.LineCommand.{LineCommand}
 use Rattle.command_lines.specs.Grammar.{ScriptLine}
 use Rattle.command_lines.specs.Commands.{LineAsks, asked_by}
 use Rattle.text_lines.specs.Lines.{spoken, count_of_all, LosesLines, LosesInto, HasNoLine, MayEndIn, GoesPastFor}
@@ -31,16 +31,16 @@ ReadsHeader (Some texts) (Some nodes) = ReadsNodes texts nodes
 ReadsHeader _ _ = ⊥
 
 -- a world stands as at its opening
-abbrev pub StandsAt : NamedOpening → Held → Type 0
+abbrev pub StandsAt : NamedOpening → WorldState → Type 0
 StandsAt o world = (names_of world ≡ o) × (named world ≡ opening_named o)
 
 -- a world of these nodes was started, or why it wasn't; or memory was refused
-abbrev pub Starts : List ℕ → List ℕ → Result Held LineFault → Type 0
+abbrev pub Starts : List ℕ → List ℕ → Result WorldState LineFault → Type 0
 Starts cluster lone (Ok world) = (start_refused cluster lone ≡ None) × StandsAt (opening_for cluster lone) world
 Starts cluster lone (Err f) = ((g : StartFault) × (start_refused cluster lone ≡ Some g) × (f ≡ Start g)) ⊎ (f ≡ Memory)
 
 -- the same, where the lone nodes were named so
-abbrev pub StartsBeside : List ℕ → Result (List ℕ) LineFault → Result Held LineFault → Type 0
+abbrev pub StartsBeside : List ℕ → Result (List ℕ) LineFault → Result WorldState LineFault → Type 0
 StartsBeside cluster (Ok lone) r = Starts cluster lone r
 StartsBeside cluster (Err f) r = r ≡ Err f
 
@@ -61,7 +61,7 @@ AllReadAs (l ∷ ls) (asked ∷ others) = (LineAsks l asked ⊎ (asked ≡ Err M
 AllReadAs _ _ = ⊥
 
 -- what was read already, as what the first line that is played asks for
-abbrev pub asked_first : Option (Result Task LineFault) → List (Result ScriptLine LineFault)
+abbrev pub asked_first : Option (Result LineCommand LineFault) → List (Result ScriptLine LineFault)
 asked_first first = map asked_by (option_to_list first)
 
 -- what was made of the line behind the `cluster` line

@@ -8,7 +8,7 @@ use Rattle.protocol_model.specs.NamedEvents.{NamedRefusal, Plain, Settle, NamedO
 use Rattle.term.specs.Nodes.{text_in}
 use Rattle.command_lines.specs.declared.WorldEvent.{WorldEvent}
 use Rattle.command_lines.specs.Events.{named_event}
-use Rattle.cluster_world.specs.Held.{Held}
+use Rattle.cluster_world.specs.WorldState.{WorldState}
 use Rattle.cluster_world.specs.NodeNames.{is_name, opening_of}
 use Rattle.cluster_world.specs.NamedWorld.{present_node}
 use Rattle.cluster_world.specs.NamedScript.{okay, shown_at}
@@ -28,18 +28,18 @@ use Rattle.text_lines.specs.Writing.{AppendsPart, Growth}
 use Rattle.cluster_script.specs.Script.{Outcome, Plays, Fails, Breaks, Finishes, ComesTo, AllComeTo, settle_limit, behind, behind_all, shown, shown_all}
 
 -- what is printed for a line on what is held
-abbrev pub shown_on : Held → Outcome → List ℕ
+abbrev pub shown_on : WorldState → Outcome → List ℕ
 shown_on h x = shown_text (shown (names_of h) (named h) x)
 
 -- this came of a line, and what it prints was written
-pub record PlaysLine (old new : Held) (x : Outcome) (before after : Option (List ℕ)) (fine : Bool) : Type 0 where
+pub record PlaysLine (old new : WorldState) (x : Outcome) (before after : Option (List ℕ)) (fine : Bool) : Type 0 where
   pub opening : names_of new ≡ names_of old
   pub world : named new ≡ behind (names_of old) (named old) x
   pub wrote : Appends before after (shown_on old x)
   pub fine_is : fine ≡ list_all is_fine (shown (names_of old) (named old) x)
 
 -- the same, or after a fault a part of what it prints was written
-abbrev pub PlaysOrStops : Held → Held → Outcome → Option (List ℕ) → Option (List ℕ) → Result Bool WriteFault → Type 0
+abbrev pub PlaysOrStops : WorldState → WorldState → Outcome → Option (List ℕ) → Option (List ℕ) → Result Bool WriteFault → Type 0
 PlaysOrStops old new x before after (Ok fine) = PlaysLine old new x before after fine
 PlaysOrStops old new x before after (Err f) = AppendsPart before after (shown_on old x)
 
@@ -57,50 +57,50 @@ AllComeOf (asked ∷ others) (x ∷ outcomes) = ComesOf asked x × AllComeOf oth
 AllComeOf _ _ = ⊥
 
 -- what was read as this was played, or stopped at
-abbrev pub PlaysAsked : Result ScriptLine LineFault → Held → Held → Option (List ℕ) → Option (List ℕ) → Result Bool WriteFault → Type 0
+abbrev pub PlaysAsked : Result ScriptLine LineFault → WorldState → WorldState → Option (List ℕ) → Option (List ℕ) → Result Bool WriteFault → Type 0
 PlaysAsked asked old new before after r = (x : Outcome) × ComesOf asked x × PlaysOrStops old new x before after r
 
 -- a line was read and played, or stopped at
-abbrev pub PlaysRead : List ℕ → Held → Held → Option (List ℕ) → Option (List ℕ) → Result Bool WriteFault → Type 0
+abbrev pub PlaysRead : List ℕ → WorldState → WorldState → Option (List ℕ) → Option (List ℕ) → Result Bool WriteFault → Type 0
 PlaysRead line old new before after r = (x : Outcome) × ComesTo line x × PlaysOrStops old new x before after r
 
 -- what an accepted event prints before its answers
-abbrev pub okay_text : Held → WorldEvent → List ℕ
+abbrev pub okay_text : WorldState → WorldEvent → List ℕ
 okay_text h e = shown_text (map Shows (okay (names_of h) (named h) (named_event e)))
 
 -- it was written, or after a fault a part of it, where the event made this world, of whatever it was before
-abbrev pub WritesOkay : {A E : Type 0} → Held → Option (List ℕ) → Option (List ℕ) → Result A E → WorldEvent → Type 0
+abbrev pub WritesOkay : {A E : Type 0} → WorldState → Option (List ℕ) → Option (List ℕ) → Result A E → WorldEvent → Type 0
 WritesOkay h old new r e = MatchResult r
-    (λ _. (was : Held) → (given : List Answer) → Played e was h [] given → Appends old new (okay_text was e))
-    (λ _. (was : Held) → (given : List Answer) → Played e was h [] given → AppendsPart old new (okay_text was e))
+    (λ _. (was : WorldState) → (given : List Answer) → Played e was h [] given → Appends old new (okay_text was e))
+    (λ _. (was : WorldState) → (given : List Answer) → Played e was h [] given → AppendsPart old new (okay_text was e))
 
 -- what is printed last for `settle`
 abbrev pub settle_end : Bool → NamedOutput
 settle_end settled = if settled then Settled else SettleLimit
 
 -- the node of a name at present
-abbrev pub node_at : Held → ℕ → ℕ
+abbrev pub node_at : WorldState → ℕ → ℕ
 node_at h x = present_node (names_of h) (named h) (text_in x)
 
 -- what a script shows of it: its table
-abbrev pub table_of : Held → ℕ → NamedOutput
+abbrev pub table_of : WorldState → ℕ → NamedOutput
 table_of h x = TableIs ((named h).world.node (node_at h x)).replica.table
 
 -- and its members
-abbrev pub members_of : Held → ℕ → NamedOutput
+abbrev pub members_of : WorldState → ℕ → NamedOutput
 members_of h x = MembersAre (nodes_of (opening_of (names_of h)).bound ((named h).world.node (node_at h x)).replica.members)
 
 -- why it isn't shown: it has left, or there is none
-abbrev pub hidden_by : Held → ℕ → NamedRefusal
+abbrev pub hidden_by : WorldState → ℕ → NamedRefusal
 hidden_by h x = if is_name (names_of h) (text_in x) then Plain NodeLeft else Plain NoSuchNode
 
 -- the line where there is one, or that refusal
-abbrev pub line_or_refusal : Held → ℕ → Option (List ℕ) → List ℕ
+abbrev pub line_or_refusal : WorldState → ℕ → Option (List ℕ) → List ℕ
 line_or_refusal h x None = error_line (refusal_word (hidden_by h x))
 line_or_refusal h x (Some line) = line
 
 -- the same, or where memory was refused for it that
-abbrev pub text_for : {E : Type 0} → Held → ℕ → Result (Option (List ℕ)) E → List ℕ
+abbrev pub text_for : {E : Type 0} → WorldState → ℕ → Result (Option (List ℕ)) E → List ℕ
 text_for h x (Ok line) = line_or_refusal h x line
 text_for h x (Err f) = error_line (word_of Memory)
 
@@ -110,7 +110,7 @@ has_line (Ok line) = is_some line
 has_line (Err f) = false
 
 -- the line that shows this of the node of name x at present, or none where it isn't shown
-pub record IsShown (h : Held) (x : ℕ) (output : NamedOutput) (line : Option (List ℕ)) : Type 0 where
+pub record IsShown (h : WorldState) (x : ℕ) (output : NamedOutput) (line : Option (List ℕ)) : Type 0 where
   pub text : line_or_refusal h x line ≡ output_line (shown_at (names_of h) (named h) (text_in x) output)
   pub fine : is_some line ≡ is_fine_output (shown_at (names_of h) (named h) (text_in x) output)
 
@@ -126,7 +126,7 @@ StopsReading input rest most f = (ls : List (List ℕ)) × (part : List ℕ) × 
     × LosesInto input rest ls part × MayEndIn f part × GoesPastFor f input most ls
 
 -- this came of what was read already, and then lines were read and played
-pub record PlaysLines (first : List Outcome) (input rest : Option (List ℕ)) (most left : ℕ) (old new : Held)
+pub record PlaysLines (first : List Outcome) (input rest : Option (List ℕ)) (most left : ℕ) (old new : WorldState)
     (before after : Option (List ℕ)) (fine : Bool) : Type 0 where
   pub taken : List (List ℕ)
   pub outcomes : List Outcome
@@ -140,7 +140,7 @@ pub record PlaysLines (first : List Outcome) (input rest : Option (List ℕ)) (m
 
 -- This came of what was read already, and some first lines were lost and played; what they print was written, or a part of
 -- it; of the next line a part was lost
-pub record PlaysSome (Grows : Growth) (first : List Outcome) (input rest : Option (List ℕ)) (old : Held)
+pub record PlaysSome (Grows : Growth) (first : List Outcome) (input rest : Option (List ℕ)) (old : WorldState)
     (before after : Option (List ℕ)) : Type 0 where
   pub taken : List (List ℕ)
   pub part : List ℕ
@@ -150,7 +150,7 @@ pub record PlaysSome (Grows : Growth) (first : List Outcome) (input rest : Optio
   pub wrote : Grows before after (shown_text (shown_all (names_of old) (named old) (first ++ outcomes)))
 
 -- only some first lines were played: all is written that they print, unless it is the writer or memory that failed
-abbrev pub StopsPlaying : List Outcome → Option (List ℕ) → Option (List ℕ) → ℕ → Held → Option (List ℕ)
+abbrev pub StopsPlaying : List Outcome → Option (List ℕ) → Option (List ℕ) → ℕ → WorldState → Option (List ℕ)
     → Option (List ℕ) → StreamFault → Type 0
 StopsPlaying first input rest most old before after TooManyLines =
     (s : PlaysSome Appends first input rest old before after) × MayEndIn TooManyLines s.part
@@ -161,14 +161,14 @@ StopsPlaying first input rest most old before after f =
     (s : PlaysSome AppendsPart first input rest old before after) × MayEndIn f s.part
 
 -- lines were played, and what they print was written; or after a fault some first lines were
-abbrev pub PlaysAll : List Outcome → Option (List ℕ) → Option (List ℕ) → ℕ → ℕ → Held → Held
+abbrev pub PlaysAll : List Outcome → Option (List ℕ) → Option (List ℕ) → ℕ → ℕ → WorldState → WorldState
     → Option (List ℕ) → Option (List ℕ) → Result Bool StreamFault → Type 0
 PlaysAll first input rest most left old new before after (Ok fine) =
     PlaysLines first input rest most left old new before after fine × HasNoLine rest
 PlaysAll first input rest most left old new before after (Err f) = StopsPlaying first input rest most old before after f
 
 -- the same, where something was read already as this
-abbrev pub PlaysBehind : List (Result ScriptLine LineFault) → Option (List ℕ) → Option (List ℕ) → ℕ → ℕ → Held → Held
+abbrev pub PlaysBehind : List (Result ScriptLine LineFault) → Option (List ℕ) → Option (List ℕ) → ℕ → ℕ → WorldState → WorldState
     → Option (List ℕ) → Option (List ℕ) → Result Bool StreamFault → Type 0
 PlaysBehind asked input rest most left old new before after r = (first : List Outcome) × AllComeOf asked first
     × PlaysAll first input rest most left old new before after r

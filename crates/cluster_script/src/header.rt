@@ -11,7 +11,7 @@ ghost use Rattle.cluster_script.specs.Played.{StopsReading};
 
 use crate::reading::next_line;
 use cluster_world::World;
-use command_lines::{LineFault, StartFault, Task, read_task, text_of};
+use command_lines::{LineCommand, LineFault, StartFault, read_command, text_of};
 use name_table::IndexTable;
 use std::alloc::{AllocError, Global};
 use std::io::{BufReader, Read, Write};
@@ -32,7 +32,7 @@ struct Cluster {
 #[derive(Drop)]
 pub(crate) enum Headers {
     /// A world, and what the line behind the `cluster` line asks for, where it is no `lone` line.
-    Open(ScriptWorld, Option<Result<Task, LineFault>>),
+    Open(ScriptWorld, Option<Result<LineCommand, LineFault>>),
     /// There is no line behind the `cluster` line.
     Ended,
     /// One is missing or refused.
@@ -141,7 +141,7 @@ fn open_lone(alloc: Global, cluster: Cluster, line: &Line) -> Headers
 {
     let Cluster { nodes, world } = cluster;
     let Some(lone) = read_lone(alloc, line) else {
-        return Headers::Open(world, Some(read_task(alloc, line)));
+        return Headers::Open(world, Some(read_command(alloc, line)));
     };
     match start_beside(alloc, &nodes, lone) {
         Ok(world) => Headers::Open(world, None),

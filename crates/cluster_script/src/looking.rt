@@ -4,7 +4,7 @@ ghost use Rattle.protocol_model.specs.NamedEvents.{TableAt, MembersAt};
 ghost use Rattle.term.specs.Nodes.{text_in};
 ghost use Rattle.term.specs.NodeSets.{set_of};
 ghost use Rattle.cluster_world.specs.NodeNames.{is_name};
-ghost use Rattle.cluster_world.specs.Held.{nodes_of};
+ghost use Rattle.cluster_world.specs.WorldState.{nodes_of};
 ghost use Rattle.cluster_world.specs.Seen.{names_of};
 ghost use Rattle.command_lines.specs.Grammar.{Scripted};
 ghost use Rattle.command_lines.specs.Printing.{error_line, refusal_word};

@@ -21,7 +21,8 @@ use crate::looking::{node_at, show_members, show_table};
 use crate::reading::next_line;
 use crate::refusing::refuse_memory;
 use command_lines::{
-    Answer, Event, LineFault, Task, WorldEvent, answer_line, read_task, refusal_line, started_line,
+    Answer, LineCommand, LineFault, LocalEvent, WorldEvent, answer_line, read_command,
+    refusal_line, started_line,
 };
 use std::alloc::Global;
 use std::io::{BufReader, Read, Write};
@@ -72,7 +73,7 @@ fn write_accepted<W: Write>(
     ensures { WritesOkay world.now (W.contents writer.old) (W.contents writer.new) result event.now }
 {
     match event {
-        WorldEvent::At(_, Event::Exit(_) | Event::Leave) => write_text(writer, b"ok\n"),
+        WorldEvent::At(_, LocalEvent::Exit(_) | LocalEvent::Leave) => write_text(writer, b"ok\n"),
         WorldEvent::Restart(name) => write_started(alloc, writer, world, name),
         _ => Ok(()),
     }
@@ -106,7 +107,7 @@ fn play_at<W: Write>(
     writer: &mut W,
     world: &mut ScriptWorld,
     name: &NodeName,
-    event: Event,
+    event: LocalEvent,
 ) -> Result<bool, WriteFault>
     ensures { PlaysAsked (Ok (Scripted (script.Play (script.At (text_in name.now) (own_event_of event))))) world.old world.new
         (W.contents writer.old) (W.contents writer.new) result }
@@ -180,36 +181,36 @@ fn finish<W: Write>(
     }
 }
 
-/// Plays a task, and writes what it prints: whether no refusal is printed.
+/// Plays a command, and writes what it prints: whether no refusal is printed.
 fn play_asked<W: Write>(
     alloc: Global,
     writer: &mut W,
     world: &mut ScriptWorld,
-    task: Task,
+    command: LineCommand,
 ) -> Result<bool, WriteFault>
-    ensures { PlaysAsked (Ok (line_in task)) world.old world.new (W.contents writer.old) (W.contents writer.new) result }
+    ensures { PlaysAsked (Ok (line_in command)) world.old world.new (W.contents writer.old) (W.contents writer.new) result }
 {
-    match task {
-        Task::Play(event) => play_event(alloc, writer, world, &event),
-        Task::At(name, event) => play_at(alloc, writer, world, &name, event),
-        Task::Settle => settle(alloc, writer, world),
-        Task::Finish => finish(alloc, writer, world),
-        Task::Table(name) => show_table(alloc, writer, world, &name),
-        Task::Members(name) => show_members(alloc, writer, world, &name),
+    match command {
+        LineCommand::Play(event) => play_event(alloc, writer, world, &event),
+        LineCommand::At(name, event) => play_at(alloc, writer, world, &name, event),
+        LineCommand::Settle => settle(alloc, writer, world),
+        LineCommand::Finish => finish(alloc, writer, world),
+        LineCommand::Table(name) => show_table(alloc, writer, world, &name),
+        LineCommand::Members(name) => show_members(alloc, writer, world, &name),
     }
 }
 
 /// Plays what a line asks for, and writes what it prints: whether no refusal is printed.
-fn play_task<W: Write>(
+fn play_command<W: Write>(
     alloc: Global,
     writer: &mut W,
     world: &mut ScriptWorld,
-    task: Result<Task, LineFault>,
+    command: Result<LineCommand, LineFault>,
 ) -> Result<bool, WriteFault>
-    ensures { PlaysAsked (asked_by task) world.old world.new (W.contents writer.old) (W.contents writer.new) result }
+    ensures { PlaysAsked (asked_by command) world.old world.new (W.contents writer.old) (W.contents writer.new) result }
 {
-    match task {
-        Ok(task) => play_asked(alloc, writer, world, task),
+    match command {
+        Ok(command) => play_asked(alloc, writer, world, command),
         Err(fault) => {
             write_text(writer, fault.line().as_bytes())?;
             Ok(false)
@@ -227,8 +228,8 @@ fn play_line<W: Write>(
     ensures { (bytes : List ℕ) → IsKept bytes line.now
         → PlaysRead bytes world.old world.new (W.contents writer.old) (W.contents writer.new) result }
 {
-    let task = read_task(alloc, line);
-    play_task(alloc, writer, world, task)
+    let command = read_command(alloc, line);
+    play_command(alloc, writer, world, command)
 }
 
 /// Whether both hold.
@@ -266,17 +267,17 @@ fn play_all<R: Read, W: Write>(
     reader: &mut BufReader<R, Global>,
     writer: &mut W,
     world: &mut ScriptWorld,
-    first: Option<Result<Task, LineFault>>,
+    first: Option<Result<LineCommand, LineFault>>,
     left: &mut u32,
 ) -> Result<bool, StreamFault>
     requires { left.old ≤ MOST_LINES }
     ensures { PlaysBehind (asked_first first) (reader_remaining R.remaining reader.old) (reader_remaining R.remaining reader.new)
         left.old left.new world.old world.new (W.contents writer.old) (W.contents writer.new) result }
 {
-    let Some(task) = first else {
+    let Some(command) = first else {
         return play_lines(alloc, reader, writer, world, left);
     };
-    let is_fine = play_task(alloc, writer, world, task)?;
+    let is_fine = play_command(alloc, writer, world, command)?;
     let others = play_lines(alloc, reader, writer, world, left)?;
     Ok(both(is_fine, others))
 }

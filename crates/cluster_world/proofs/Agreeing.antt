@@ -15,7 +15,7 @@ use Rattle.node_core.specs.declared.Answer.{Answer}
 use Rattle.node_core.specs.NodeEventsSeen.{answer_of}
 use Rattle.world_events.specs.declared.events.WorldEvent.{WorldEvent}
 use Rattle.world_events.specs.Events.{named_event}
-use Rattle.cluster_world.specs.Held.{Held}
+use Rattle.cluster_world.specs.WorldState.{WorldState}
 use Rattle.cluster_world.specs.Seen.{names_of, opening_of, named}
 use Rattle.cluster_world.specs.Playing.{Keeps, Played, events_of, answers_to_all}
 use Rattle.cluster_world.specs.Agreeing.{HeadlineAfter, IsRunOf, AgreesAfter, Agrees}
@@ -31,7 +31,7 @@ answers_are o w (e ∷ es) =
     ∙ ap (λ (l : List AnyAnswer). named_answers o w e ++ l) (answers_are o (happens_named o w e) es)
 
 -- the headline holds behind the events that made a world
-pub agreed : (es : List NamedEvent) (h : Held) → IsRunOf es h → AgreesAfter es h
+pub agreed : (es : List NamedEvent) (h : WorldState) → IsRunOf es h → AgreesAfter es h
 agreed es h is = record {
   is_run = is;
   headline = subst (λ (w : NamedWorld). HeadlineAfter (opening_of h) (as_events (names_of h) es) w.world) (sym is)
@@ -39,7 +39,7 @@ agreed es h is = record {
 }
 
 -- what was run behind them agrees
-pub agrees : (es : List WorldEvent) (given : List Answer) (old new : Held) → Keeps old new
+pub agrees : (es : List WorldEvent) (given : List Answer) (old new : WorldState) → Keeps old new
     → named new ≡ run_named (names_of old) (named old) (events_of es)
     → map answer_of given ≡ answers_to_all (names_of old) (named old) (events_of es) → Agrees es given old new
 agrees es given old new K world said before is = (
@@ -72,11 +72,11 @@ agrees es given old new K world said before is = (
     later = plain_events o (after_events o before) now
 
 -- an event that was played
-pub agrees_played : (e : WorldEvent) (old new : Held) (now : List Answer) → Played e old new [] now
+pub agrees_played : (e : WorldEvent) (old new : WorldState) (now : List Answer) → Played e old new [] now
     → Agrees (e ∷ []) now old new
 agrees_played e old new now P = agrees (e ∷ []) now old new (record { names = P.names; cluster = P.cluster }) P.happens
     (P.answers ∙ sym (append-nil (named_answers (names_of old) (named old) (named_event e))))
 
 -- nothing was played
-pub agrees_unchanged : (old new : Held) → Keeps old new → named new ≡ named old → Agrees [] [] old new
+pub agrees_unchanged : (old new : WorldState) → Keeps old new → named new ≡ named old → Agrees [] [] old new
 agrees_unchanged old new K same = agrees [] [] old new K same refl

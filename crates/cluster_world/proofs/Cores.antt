@@ -7,7 +7,7 @@ use Rattle.std.proofs.lemmas.List.Elements.{All-head, All-tail}
 use Rattle.std.proofs.lemmas.List.Folds.{find_past}
 use Rattle.std.proofs.lemmas.List.Quantifiers.{position-Some}
 use Rattle.registry_model.proofs.Updates.{by_test}
-use Rattle.link.specs.Held.{place}
+use Rattle.link.specs.MeshState.{place}
 use Rattle.term.proofs.NodePlaces.{place-Some}
 
 module _ {C : Type 0} (name : C → ℕ) where

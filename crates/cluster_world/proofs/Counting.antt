@@ -29,7 +29,7 @@ use Rattle.getting_through.proofs.Theorem.{calls_are_answered_once}
 use Rattle.node_core.specs.declared.Answer.{Answer}
 use Rattle.node_core.specs.NodeEventsSeen.{answer_of}
 use Rattle.world_events.specs.declared.events.WorldEvent.{WorldEvent}
-use Rattle.cluster_world.specs.Held.{Held}
+use Rattle.cluster_world.specs.WorldState.{WorldState}
 use Rattle.cluster_world.specs.Seen.{names_of, seen, named}
 use Rattle.cluster_world.specs.Playing.{WentThrough, events_of, accepts_all, answers_to_all}
 use Rattle.cluster_world.specs.Locks.{try_behind}
@@ -287,7 +287,7 @@ home_of : (w : World) (a : ℕ) (p : Process) (r : Text) (more : List Cause)
 home_of w a p r more h = eqb-true p.node a (live_own a (w.node a).watch p
     (lock_tested a (w.node a) p r more h).0).0
 
-module _ (es : List WorldEvent) (given : List Answer) (old new : Held) (most : ℕ) (v : Option Bool)
+module _ (es : List WorldEvent) (given : List Answer) (old new : WorldState) (most : ℕ) (v : Option Bool)
     (W : WentThrough es old new [] given) where
   abbrev o : NamedOpening
   o = names_of old

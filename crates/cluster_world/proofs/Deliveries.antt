@@ -19,15 +19,15 @@ use Rattle.term.specs.NodeSets.{set_of, names_in, with_older}
 use Rattle.term.proofs.Numbers.{of_both, text_in-first_node, name_of-packed, name_of-first}
 use Rattle.term.proofs.Older.{held}
 use Rattle.link.specs.declared.link_place.LinkPlace.{LinkPlace}
-use Rattle.link.specs.Held.{place}
+use Rattle.link.specs.MeshState.{place}
 use Rattle.node_core.specs.declared.Letter.{Letter}
-use Rattle.node_core.specs.Held.{Held as Core, HaveLeft}
+use Rattle.node_core.specs.CoreState.{CoreState, HaveLeft}
 use Rattle.node_core.specs.Letters.{letter_of}
 use Rattle.world_events.specs.declared.events.WorldEvent.TheVariants.{Deliver}
 use Rattle.world_events.specs.declared.refusal.Refusal.TheVariants.{NoSuchNode, NodeLeft, EmptyLink}
 use Rattle.cluster_world.specs.declared.admission.Delivery.{Delivery}
 use Rattle.cluster_world.specs.Admissions.{IsReady, delivered_by}
-use Rattle.cluster_world.specs.Held.{Held, nodes_of}
+use Rattle.cluster_world.specs.WorldState.{WorldState, nodes_of}
 use Rattle.cluster_world.specs.Links.{IsBetween, IsFirstSender}
 use Rattle.cluster_world.specs.Mail.{links_of}
 use Rattle.cluster_world.specs.Openings.{present_in}
@@ -102,7 +102,7 @@ text_of-name n = text_in-first_node (text_in n)
 less_node : (t c d : ℕ) → 1 ≤ d → d < c → first_node t + (d - 1) < first_node t + (c - 1)
 less_node t c d l m = omega (arith, l, m)
 
-module _ (h : Held) (whole : IsWhole h) (left : HaveLeft (nodes_of h) h.links.departed) where
+module _ (h : WorldState) (whole : IsWhole h) (left : HaveLeft (nodes_of h) h.links.departed) where
   stand : NodesStand (names_of h) (named h)
   stand = subst (λ (v : NamedWorld). NodesStand (names_of h) v) (sym whole.reached)
       (nodes_always_stand (names_of h) whole.events)
@@ -314,15 +314,15 @@ module _ (h : Held) (whole : IsWhole h) (left : HaveLeft (nodes_of h) h.links.de
           (if is_nil ((seen h).links.queue sender receiver) then Some AnyRefusal.EmptyLink else None) e
 
 -- The node at a place reads, and has the name that a delivery gives; what is held is seen as v and as h
-module _ (v h : Held) (same : v ≡ h) (whole : IsWhole v) (x y p : ℕ)
-    (seat : (n : ℕ) × (place n (nodes_of h) ≡ Some p) × (name_of n ≡ y)) (core : Core) (is : core ≡ get_or v.cores p core)
+module _ (v h : WorldState) (same : v ≡ h) (whole : IsWhole v) (x y p : ℕ)
+    (seat : (n : ℕ) × (place n (nodes_of h) ≡ Some p) × (name_of n ≡ y)) (core : CoreState) (is : core ≡ get_or v.cores p core)
     (t : ℕ) (named_as : t ≡ core.name) where
   whole_too : IsWhole h
   whole_too = subst IsWhole same whole
 
   reader_is : t ≡ seat.0
   reader_is = named_as
-      ∙ named_so h whole_too seat.0 p core seat.1 (subst (λ (k : Held). core ≡ get_or k.cores p core) same is)
+      ∙ named_so h whole_too seat.0 p core seat.1 (subst (λ (k : WorldState). core ≡ get_or k.cores p core) same is)
 
   present_too : set_of (nodes_of h) t ≡ true
   present_too = ap (set_of (nodes_of h)) reader_is ∙ known_place (nodes_of h) seat.0 p seat.1
@@ -331,14 +331,14 @@ module _ (v h : Held) (same : v ≡ h) (whole : IsWhole v) (x y p : ℕ)
   reads_as = ap name_of reader_is ∙ seat.2
 
   links_too : (r : Option ℕ) → IsFirstSender x t r (links_of v.links) → IsFirstSender x t r (links_of h.links)
-  links_too r = subst (λ (k : Held). IsFirstSender x t r (links_of k.links)) same
+  links_too r = subst (λ (k : WorldState). IsFirstSender x t r (links_of k.links)) same
 
   reads_there : place t (nodes_of h) ≡ Some p
   reads_there = ap (λ (m : ℕ). place m (nodes_of h)) reader_is ∙ seat.1
 
   pub reads_between : (k : LinkPlace) → k.receiver ≡ p → (s : ℕ) × (place s (nodes_of h) ≡ Some k.sender) × (name_of s ≡ x)
       → IsBetween k x t (nodes_of v)
-  reads_between k at sends = subst (λ (m : Held). IsBetween k x t (nodes_of m)) (sym same)
+  reads_between k at sends = subst (λ (m : WorldState). IsBetween k x t (nodes_of m)) (sym same)
       (record { sender = sends; receiver = reads_there ∙ ap Some (sym at) })
 
   module _ (left : HaveLeft (nodes_of h) h.links.departed) where
@@ -372,7 +372,7 @@ module _ (v h : Held) (same : v ≡ h) (whole : IsWhole v) (x y p : ℕ)
       nobody_sends = subst (λ (o : Option ℕ). IsFirstSender x t o (links_of h.links)) nothing (links_too r first)
 
       gone_too : (b : Bool) → (links_of v.links).closed t ≡ b → with_older h.links.departed t ≡ b
-      gone_too b e = ap (λ (k : Held). with_older k.links.departed t) (sym same)
+      gone_too b e = ap (λ (k : WorldState). with_older k.links.departed t) (sym same)
           ∙ ap (λ (s : ℕ → Bool). s t) (sym (closed_is v.links)) ∙ e
 
       pub refuses_found_left : (links_of v.links).closed t ≡ true → RefusedWith NodeLeft (Deliver x y) h

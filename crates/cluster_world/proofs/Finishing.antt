@@ -21,10 +21,10 @@ use Rattle.getting_through.proofs.NamedFinishing.{refused_found, is_finished, re
 use Rattle.getting_through.proofs.NamedQuiet.{settled_names_answer}
 use Rattle.getting_through.proofs.Settling.{settling_delivers_the_first}
 use Rattle.node_core.specs.declared.Answer.{Answer}
-use Rattle.world_events.specs.declared.events.Event.TheVariants.{Retry}
+use Rattle.world_events.specs.declared.events.LocalEvent.TheVariants.{Retry}
 use Rattle.world_events.specs.declared.events.WorldEvent.TheVariants.{At, Deliver}
 use Rattle.world_events.specs.Events.{named_event}
-use Rattle.cluster_world.specs.Held.{Held}
+use Rattle.cluster_world.specs.WorldState.{WorldState}
 use Rattle.cluster_world.specs.Agreeing.{IsRunOf}
 use Rattle.cluster_world.specs.Finishing.{retry_of, next_to_finish, finishing_left, RetriesInto, HasMore, Finishes}
 use Rattle.cluster_world.specs.Playing.{Keeps, WaitsOn, events_of}
@@ -116,7 +116,7 @@ module _ (o : NamedOpening) where
       (sym (fold-append (happens_named o) (opening_named o) before (e ∷ []))) all.1)
 
 -- deliveries that are made come next here, too
-pub finish_plays : (old new : Held) (given now : List Answer) → PlaysOn next_named old new given now
+pub finish_plays : (old new : WorldState) (given now : List Answer) → PlaysOn next_named old new given now
     → PlaysOn next_to_finish old new given now
 finish_plays old new given now P = record {
   events = P.events;
@@ -125,20 +125,20 @@ finish_plays old new given now P = record {
 }
 
 -- and a retry does
-pub retry_plays : (old new : Held) (given now : List Answer) → WaitsOn None old → RetriesInto old new given now
+pub retry_plays : (old new : WorldState) (given now : List Answer) → WaitsOn None old → RetriesInto old new given now
     → PlaysOn next_to_finish old new given now
 retry_plays old new given now none R = plays_one next_to_finish (At R.node Retry) old new given now
     (finish_retries (names_of old) (named old) (Some R.node) none R.refused) R.played
 
 -- a retry more, and the deliveries behind it
-pub finish_more : (old mid new last : Held) (given a b c : List Answer) → Keeps old mid → PlaysOn next_to_finish old mid given a
+pub finish_more : (old mid new last : WorldState) (given a b c : List Answer) → Keeps old mid → PlaysOn next_to_finish old mid given a
     → WaitsOn None mid → RetriesInto mid new a b → Keeps mid new → PlaysOn next_named new last b c
     → PlaysOn next_to_finish old last given c
 finish_more old mid new last given a b c K P none R L Q =
     plays_along next_to_finish old new last given b c (keeps_on old mid new K L)
     (plays_along next_to_finish old mid new given a b K P (retry_plays mid new a b none R)) (finish_plays new last b c Q)
 
-module _ (h : Held) (whole : IsWhole h) where
+module _ (h : WorldState) (whole : IsWhole h) where
   -- the protocol accepts the retry of the first refused node
   pub retry_accepted : (n : ℕ) → first_refused (names_of h) (named h) ≡ Some n
       → named_refusal (names_of h) (named h) (named_event (At n Retry)) ≡ None
@@ -159,7 +159,7 @@ module _ (h : Held) (whole : IsWhole h) where
           rw (f.0.started, r) refl
 
   -- a retry and deliveries behind it until no letter waits lower what is pending
-  pub finish_lowers : (mid new : Held) (a b c : List Answer) → WaitsOn None h → RetriesInto h mid a b → Keeps h mid → Keeps mid new
+  pub finish_lowers : (mid new : WorldState) (a b c : List Answer) → WaitsOn None h → RetriesInto h mid a b → Keeps h mid → Keeps mid new
       → PlaysOn next_named mid new b c → WaitsOn None new
       → pending (of_names (names_of new)) (named new) < pending (of_names (names_of h)) (named h)
   finish_lowers mid new a b c none R K L P end = subst (λ (k : ℕ). k < pending (of_names o) (named h)) (sym stands)
@@ -200,7 +200,7 @@ module _ (h : Held) (whole : IsWhole h) where
           ∙ ap (pending (of_names o)) (made ∙ ap (run_named o w1) (sym (all_deliveries o w1 es (named_work o w1) are ended)))
 
 -- what comes next, where it is a delivery
-pub more_delivers : (h : Held) → HasNext h → HasMore h
+pub more_delivers : (h : WorldState) → HasNext h → HasMore h
 more_delivers h H = record {
   event = named_event (Deliver H.sender H.receiver);
   next = finish_delivers (names_of h) (named h) (named_event (Deliver H.sender H.receiver)) H.next;
@@ -208,7 +208,7 @@ more_delivers h H = record {
 }
 
 -- and where it is a retry
-pub more_retries : (h : Held) → IsWhole h → WaitsOn None h → (n : ℕ) → first_refused (names_of h) (named h) ≡ Some n → HasMore h
+pub more_retries : (h : WorldState) → IsWhole h → WaitsOn None h → (n : ℕ) → first_refused (names_of h) (named h) ≡ Some n → HasMore h
 more_retries h whole none n e = record {
   event = named_event (At n Retry);
   next = finish_retries (names_of h) (named h) (Some n) none e;
@@ -216,7 +216,7 @@ more_retries h whole none n e = record {
 }
 
 -- it doesn't matter how a world is held
-pub more_still : (old new : Held) → Keeps old new → named new ≡ named old → HasMore old → HasMore new
+pub more_still : (old new : WorldState) → Keeps old new → named new ≡ named old → HasMore old → HasMore new
 more_still old new K same H = record {
   event = H.event;
   next = ap (λ (p : NamedOpening). next_to_finish p (named new)) K.names ∙ ap (next_to_finish (names_of old)) same ∙ H.next;
@@ -225,12 +225,12 @@ more_still old new K same H = record {
 }
 
 -- where no letter waits and no registrar is refused nothing comes next
-pub finish_ended : (h : Held) → WaitsOn None h → first_refused (names_of h) (named h) ≡ None
+pub finish_ended : (h : WorldState) → WaitsOn None h → first_refused (names_of h) (named h) ≡ None
     → next_to_finish (names_of h) (named h) ≡ None
 finish_ended h none e = finish_retries (names_of h) (named h) None none e
 
 -- all was played, and the world is finished
-pub finishes : (old new : Held) (now : List Answer) → Keeps old new → PlaysOn next_to_finish old new [] now
+pub finishes : (old new : WorldState) (now : List Answer) → Keeps old new → PlaysOn next_to_finish old new [] now
     → next_to_finish (names_of new) (named new) ≡ None → Finishes old new now
 finishes old new now K P end = record { goes_on = G; ended = end; leads_on = leads }
   where

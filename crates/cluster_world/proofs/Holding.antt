@@ -14,9 +14,9 @@ use Rattle.term.specs.NodeSets.{set_of, with_older}
 use Rattle.term.proofs.NodeLists.{rising-tail}
 use Rattle.term.proofs.NodeSets.{rises}
 use Rattle.term.proofs.Older.{held}
-use Rattle.node_core.specs.Held.{Held as Core, HaveLeft}
+use Rattle.node_core.specs.CoreState.{CoreState, HaveLeft}
 use Rattle.cluster_world.specs.Cores.{core_of}
-use Rattle.cluster_world.specs.Held.{Held, nodes_of}
+use Rattle.cluster_world.specs.WorldState.{WorldState, nodes_of}
 use Rattle.cluster_world.specs.Seen.{opening_of, or_else, node_with, seen, is_holding}
 use Rattle.cluster_world.specs.Whole.{IsWhole}
 use Rattle.cluster_world.proofs.Cores.{no_core, not_among}
@@ -26,16 +26,16 @@ use Rattle.cluster_world.proofs.Untold.{core_seen}
 use Rattle.cluster_world.proofs.Steps.{core_name}
 
 -- none of the first i cores passes
-abbrev pub NonePasses : (Core → Bool) → ℕ → List Core → Type 0
-NonePasses q i cs = (k : ℕ) (d : Core) → k < i → q (get_or cs k d) ≡ false
+abbrev pub NonePasses : (CoreState → Bool) → ℕ → List CoreState → Type 0
+NonePasses q i cs = (k : ℕ) (d : CoreState) → k < i → q (get_or cs k d) ≡ false
 
 -- nobody holds among them
-abbrev pub NobodyBefore : List ℕ → ℕ → List Core → Type 0
+abbrev pub NobodyBefore : List ℕ → ℕ → List CoreState → Type 0
 NobodyBefore w i cs = NonePasses (is_holding w) i cs
 
-module _ (q : Core → Bool) where
+module _ (q : CoreState → Bool) where
   -- a search for a name is a search for its core
-  pub found_by_name : (p : ℕ → Bool) (cs : List Core) → ((k : ℕ) (d : Core) → k < length cs
+  pub found_by_name : (p : ℕ → Bool) (cs : List CoreState) → ((k : ℕ) (d : CoreState) → k < length cs
       → p (get_or cs k d).name ≡ q (get_or cs k d))
       → find p (map core_name cs) ≡ option_map core_name (find q cs)
   found_by_name p [] same = refl
@@ -49,13 +49,13 @@ module _ (q : Core → Bool) where
       go true e = refl
       go false e = e
 
-  found_none : (cs : List Core) → NonePasses q (length cs) cs → find q cs ≡ None
+  found_none : (cs : List CoreState) → NonePasses q (length cs) cs → find q cs ≡ None
   found_none [] none = refl
   found_none (c ∷ cs) none =
       ap (λ (b : Bool). if b then Some c else find q cs) (none 0 c (omega arith))
       ∙ found_none cs (λ k d l. none (suc k) d (omega arith))
 
-  found_some : (cs : List Core) (i : ℕ) (c : Core) → i < length cs → NonePasses q i cs
+  found_some : (cs : List CoreState) (i : ℕ) (c : CoreState) → i < length cs → NonePasses q i cs
       → q (get_or cs i c) ≡ true → find q cs ≡ Some (get_or cs i c)
   found_some [] i c l none here = absurd (omega arith)
   found_some (d ∷ cs) zero c l none here = ap (λ (b : Bool). if b then Some d else find q cs) here
@@ -64,7 +64,7 @@ module _ (q : Core → Bool) where
       ∙ found_some cs i c (omega arith) (λ k e m. none (suc k) e (omega arith)) here
 
   -- one core more was looked at
-  pub none_more : (cs : List Core) (i : ℕ) (c : Core) → i < length cs → c ≡ get_or cs i c
+  pub none_more : (cs : List CoreState) (i : ℕ) (c : CoreState) → i < length cs → c ≡ get_or cs i c
       → NonePasses q i cs → q c ≡ false → NonePasses q (i + 1) cs
   none_more cs i c l is before here k d m = elim (cases_lt k i) [
     | inl less ↦ before k d less
@@ -76,16 +76,16 @@ module _ (q : Core → Bool) where
       same_place k i m n = omega arith
 
   -- this core passes, and none before it; or none does
-  pub this_first : (cores cs : List Core) (i : ℕ) (c : Core) (x : ℕ) → cs ≡ cores → i < length cs → c ≡ get_or cs i c
+  pub this_first : (cores cs : List CoreState) (i : ℕ) (c : CoreState) (x : ℕ) → cs ≡ cores → i < length cs → c ≡ get_or cs i c
       → NonePasses q i cs → q c ≡ true → x ≡ c.name → Some x ≡ option_map core_name (find q cores)
   this_first cores cs i c x are l is before here named =
-      subst (λ (ds : List Core). Some x ≡ option_map core_name (find q ds)) are
+      subst (λ (ds : List CoreState). Some x ≡ option_map core_name (find q ds)) are
       (ap Some (named ∙ ap core_name is)
       ∙ sym (ap (option_map core_name) (found_some cs i c l before (ap q (sym is) ∙ here))))
 
-  pub none_first : (cores cs : List Core) (i : ℕ) → cs ≡ cores → length cs ≤ i → NonePasses q i cs
+  pub none_first : (cores cs : List CoreState) (i : ℕ) → cs ≡ cores → length cs ≤ i → NonePasses q i cs
       → None ≡ option_map core_name (find q cores)
-  none_first cores cs i are le before = subst (λ (ds : List Core). None ≡ option_map core_name (find q ds)) are
+  none_first cores cs i are le before = subst (λ (ds : List CoreState). None ≡ option_map core_name (find q ds)) are
       (sym (ap (option_map core_name) (found_none cs (λ k d l. before k d (omega (arith, l, le))))))
 
 -- what is found is the same in rising lists that have the same of what passes
@@ -121,11 +121,11 @@ found_same p xs ys R T there back = go (find p xs) (find p ys) refl refl
         ]
 
 -- no core was kept of a node that hasn't started
-none_kept : (nodes : List ℕ) (y : ℕ) (ps : List Core) → with_older nodes y ≡ false
+none_kept : (nodes : List ℕ) (y : ℕ) (ps : List CoreState) → with_older nodes y ≡ false
     → All (λ c. (with_older nodes c.name ≡ true) × (set_of nodes c.name ≡ false)) ps → core_of y ps ≡ None
 none_kept nodes y ps e all = not_among core_name y ps (λ k d l f. cc (e, (all k d l).0, ap (with_older nodes) f))
 
-module _ (h : Held) (whole : IsWhole h) (went : HaveLeft (nodes_of h) h.links.departed) where
+module _ (h : WorldState) (whole : IsWhole h) (went : HaveLeft (nodes_of h) h.links.departed) where
   -- whether a node with this state holds, and has it left
   abbrev holding : Node → Bool → Bool
   holding v gone = v.replica.joined && holds_global v && not gone
@@ -133,7 +133,7 @@ module _ (h : Held) (whole : IsWhole h) (went : HaveLeft (nodes_of h) h.links.de
   abbrev holds : ℕ → Bool
   holds c = holding ((seen h).node c) (left (seen h) c)
 
-  same : (k : ℕ) (d : Core) → k < length h.cores → holds (get_or h.cores k d).name
+  same : (k : ℕ) (d : CoreState) → k < length h.cores → holds (get_or h.cores k d).name
       ≡ is_holding h.links.departed (get_or h.cores k d)
   same k d l = ap (λ (v : Node). holding v (left (seen h) (get_or h.cores k d).name)) (core_seen h whole k d l)
 
@@ -162,9 +162,9 @@ module _ (h : Held) (whole : IsWhole h) (went : HaveLeft (nodes_of h) h.links.de
       go false true f g = absurd (not_gone ((seen h).node c)
           (subst (λ (t : Bool). holding ((seen h).node c) t ≡ true) (went.older c g f) e))
       go false false f g = absurd (not_free ((seen h).node c) (left (seen h) c)
-          (ap (λ (r : Option Core). holds_global (node_with (opening_of h) c (or_else r (core_of c h.past))))
+          (ap (λ (r : Option CoreState). holds_global (node_with (opening_of h) c (or_else r (core_of c h.past))))
           (no_core core_name h.cores c (ap (λ (ns : List ℕ). set_of ns c) whole.names ∙ f))
-          ∙ ap (λ (r : Option Core). holds_global (node_with (opening_of h) c r)) (none_kept (nodes_of h) c h.past g whole.older)) e)
+          ∙ ap (λ (r : Option CoreState). holds_global (node_with (opening_of h) c r)) (none_kept (nodes_of h) c h.past g whole.older)) e)
 
   -- so it is searched for among the nodes at present
   searched : find holds (all_below (opening_of h).bound (in_world (opening_of h))) ≡ find holds (nodes_of h)
@@ -181,12 +181,12 @@ module _ (h : Held) (whole : IsWhole h) (went : HaveLeft (nodes_of h) h.links.de
   holder_is = searched ∙ ap (find holds) (sym whole.names) ∙ found_by_name (is_holding h.links.departed) holds h.cores same
 
 -- one core more was looked at
-pub nobody_more : (w : List ℕ) (cs : List Core) (i : ℕ) (c : Core) → i < length cs → c ≡ get_or cs i c
+pub nobody_more : (w : List ℕ) (cs : List CoreState) (i : ℕ) (c : CoreState) → i < length cs → c ≡ get_or cs i c
     → NobodyBefore w i cs → is_holding w c ≡ false → NobodyBefore w (i + 1) cs
 nobody_more w cs i c l is before here = none_more (is_holding w) cs i c l is before here
 
 -- this core holds, and none before it
-pub this_core : (h : Held) (cs : List Core) (i : ℕ) (c : Core) (x : ℕ) → IsWhole h → HaveLeft (nodes_of h) h.links.departed
+pub this_core : (h : WorldState) (cs : List CoreState) (i : ℕ) (c : CoreState) (x : ℕ) → IsWhole h → HaveLeft (nodes_of h) h.links.departed
     → cs ≡ h.cores → i < length cs → c
     ≡ get_or cs i c → NobodyBefore h.links.departed i cs
     → is_holding h.links.departed c ≡ true → x ≡ c.name → Some x ≡ holder (opening_of h) (seen h)
@@ -194,7 +194,7 @@ this_core h cs i c x whole went are l is before here named =
     this_first (is_holding h.links.departed) h.cores cs i c x are l is before here named ∙ sym (holder_is h whole went)
 
 -- no core holds
-pub no_core_holds : (h : Held) (cs : List Core) (i : ℕ) → IsWhole h → HaveLeft (nodes_of h) h.links.departed
+pub no_core_holds : (h : WorldState) (cs : List CoreState) (i : ℕ) → IsWhole h → HaveLeft (nodes_of h) h.links.departed
     → cs ≡ h.cores → length cs ≤ i
     → NobodyBefore h.links.departed i cs → None ≡ holder (opening_of h) (seen h)
 no_core_holds h cs i whole went are le before =

@@ -6,7 +6,7 @@ use Rattle.std.proofs.lemmas.List.{get_or_default}
 use Rattle.std.proofs.lemmas.List.Folds.{list_any_none}
 use Rattle.std.proofs.lemmas.List.Sums.{fails_before_first}
 use Rattle.term.specs.NodeSets.{set_of}
-use Rattle.link.specs.Held.{place}
+use Rattle.link.specs.MeshState.{place}
 use Rattle.term.proofs.NodePlaces.{place-Some}
 use Rattle.boss_order.proofs.Sets.{set_of-item}
 

@@ -10,7 +10,7 @@ use Rattle.protocol_model.specs.Event.{Refusal as AnyRefusal}
 use Rattle.protocol_model.specs.Letter.{Id, Client}
 use Rattle.protocol_model.specs.World.{Opening, World, WorldEvent as AnyWorldEvent, opening_world, refusal, happens, answers, run}
 use Rattle.world_events.specs.declared.events.WorldEvent.{WorldEvent}
-use Rattle.cluster_world.specs.Held.{Held}
+use Rattle.cluster_world.specs.WorldState.{WorldState}
 use Rattle.world_events.specs.Openings.{opening_with}
 use Rattle.getting_through.specs.NamedWorld.{NamedWorld, NamedEvent, as_events}
 use Rattle.getting_through.proofs.NamedRuns.{tally-append}
@@ -23,7 +23,7 @@ use Rattle.cluster_world.specs.Agreeing.{AgreesAfter, Agrees}
 use Rattle.cluster_world.specs.Locks.{LocksAfter, LocksBehind, NeverBothHold, HasLock, is_left, is_kept}
 
 -- where the headline stands behind events, locks are so behind them
-pub locks_after : (es : List NamedEvent) (h : Held) → AgreesAfter es h
+pub locks_after : (es : List NamedEvent) (h : WorldState) → AgreesAfter es h
     → LocksAfter (opening_of h) (as_events (names_of h) es) (seen h) × ClientLocks (of_names (names_of h)) es (named h)
 locks_after es h A = (
   subst (λ (w : NamedWorld). LocksAfter (opening_of h) (as_events (names_of h) es) w.world) (sym A.is_run)
@@ -32,7 +32,7 @@ locks_after es h A = (
 )
 
 -- and behind what was run
-pub locks_behind : (es : List WorldEvent) (given : List Answer) (old new : Held) → Agrees es given old new
+pub locks_behind : (es : List WorldEvent) (given : List Answer) (old new : WorldState) → Agrees es given old new
     → LocksBehind es old new
 locks_behind es given old new A before is = locks_after (before ++ events_of es) new (A before is).0
 

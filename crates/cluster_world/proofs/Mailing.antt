@@ -18,11 +18,11 @@ use Rattle.link.specs.declared.faults.LinkFault.{LinkFault}
 use Rattle.link.specs.declared.faults.LinkFault.TheVariants as on_link
 use Rattle.link.specs.declared.link_place.LinkPlace.{LinkPlace}
 use Rattle.link.specs.Faults.{IsStranger}
-use Rattle.link.specs.Held.{Held as Mesh, WaitsFirst as FirstOfMesh, IsWithin, has, place, node_at, from_of, to_of, only_to, seen as on_mesh}
+use Rattle.link.specs.MeshState.{MeshState, WaitsFirst as FirstOfMesh, IsWithin, has, place, node_at, from_of, to_of, only_to, seen as on_mesh}
 use Rattle.link.specs.Reopening.{reopened}
 use Rattle.link.proofs.Places.{place-get_or}
 use Rattle.node_core.specs.declared.Letter.{Letter}
-use Rattle.node_core.specs.Held.{HaveLeft, IsNext}
+use Rattle.node_core.specs.CoreState.{HaveLeft, IsNext}
 use Rattle.node_core.proofs.Gone.{one_way}
 use Rattle.cluster_world.specs.Links.{SentLetter, Unsent, IsBetween, IsFirstSender, WaitsFirst}
 use Rattle.cluster_world.specs.Mail.{Mailed, IsSound, AreOwn, letters_of, on_links}
@@ -488,7 +488,7 @@ module _ (h : Mailed) (sound : IsSound h) where
   fits_of = record { closed = sound.closed; quiet = sound.quiet; named = sound.named; rise = sound.rise }
 
 -- and a mail of such links is sound
-pub sound_of : (nodes departed : List ℕ) (m : Mesh SentLetter) (u : Option Unsent) → HaveLeft nodes departed
+pub sound_of : (nodes departed : List ℕ) (m : MeshState SentLetter) (u : Option Unsent) → HaveLeft nodes departed
     → m.nodes ≡ map name_of nodes → Fits nodes departed (on_mesh m) → IfSome u (AreOwn nodes)
     → IsSound (record { nodes = nodes; departed = departed; mesh = m; unsent = u })
 sound_of nodes departed m u left names fits own = record {
@@ -652,14 +652,14 @@ known_so h sound a here (Err on_link.Full) ok err = absurd err
 known_so h sound a here (Err on_link.Memory) ok err = absurd err
 
 -- a mail without letters is sound
-pub new_sound : (nodes departed : List ℕ) (m : Mesh SentLetter) → All IsFirst nodes → departed ≡ [] → m.nodes ≡ nodes
+pub new_sound : (nodes departed : List ℕ) (m : MeshState SentLetter) → All IsFirst nodes → departed ≡ [] → m.nodes ≡ nodes
     → on_mesh m ≡ no_letters → IsSound (record { nodes = nodes; departed = departed; mesh = m; unsent = None })
 new_sound nodes departed m first none are empty = sound_of nodes departed m None
     (subst (λ (ns : List ℕ). HaveLeft nodes ns) (sym none) (none_left nodes first)) (are ∙ names_are nodes first)
     (subst (λ (ns : List ℕ). Fits nodes ns (on_mesh m)) (sym none)
     (subst (λ (w : Links SentLetter). Fits nodes [] w) (sym empty) (fits_nothing nodes))) tt
 
-pub new_links : (nodes departed : List ℕ) (m : Mesh SentLetter) → departed ≡ [] → on_mesh m ≡ no_letters
+pub new_links : (nodes departed : List ℕ) (m : MeshState SentLetter) → departed ≡ [] → on_mesh m ≡ no_letters
     → by_nodes nodes departed (on_mesh m) ≡ no_letters
 new_links nodes departed m none empty = ap (λ (ns : List ℕ). by_nodes nodes ns (on_mesh m)) none
     ∙ ap (λ (w : Links SentLetter). by_nodes nodes [] w) empty ∙ nothing_by nodes

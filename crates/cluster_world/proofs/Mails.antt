@@ -13,10 +13,10 @@ use Rattle.term.proofs.Older.{held}
 use Rattle.link.specs.declared.faults.LinkFault.{LinkFault}
 use Rattle.link.specs.Faults.{IsStranger}
 use Rattle.link.specs.declared.link_place.LinkPlace.{LinkPlace}
-use Rattle.link.specs.Held.{Held as Mesh, IsWithin, only_to, place, node_at, from_of, to_of, seen as on_mesh}
+use Rattle.link.specs.MeshState.{MeshState, IsWithin, only_to, place, node_at, from_of, to_of, seen as on_mesh}
 use Rattle.link.specs.Reopening.{reopened}
 use Rattle.node_core.specs.declared.Letter.{Letter}
-use Rattle.node_core.specs.Held.{IsNext}
+use Rattle.node_core.specs.CoreState.{IsNext}
 use Rattle.node_core.proofs.Gone.{stands, told_is, left_too}
 use Rattle.node_core.proofs.Replacing.{left_then}
 use Rattle.cluster_world.specs.declared.admission.Delivery.{Delivery}
@@ -34,7 +34,7 @@ link_there h sound w is k x t link =
     link_stands h sound k x t (subst (λ (m : Mailed). IsBetween k x t m.nodes) (sym is) link)
 
 module _ (h : Mailed) (sound : IsSound h) where
-  module _ (a r : ℕ) (l : Letter) (k : Mesh SentLetter) (here : set_of h.nodes a ≡ true) (started : with_older h.nodes r ≡ true)
+  module _ (a r : ℕ) (l : Letter) (k : MeshState SentLetter) (here : set_of h.nodes a ≡ true) (started : with_older h.nodes r ≡ true)
       (stays : with_older h.departed r ≡ false) (same : k.nodes ≡ h.mesh.nodes)
       (put : on_mesh k ≡ posted (name_of a) (only_to (name_of r) (record { sender = a; letter = l })) (on_mesh h.mesh)) where
     -- a letter of a node at present was put on its link
@@ -48,7 +48,7 @@ module _ (h : Mailed) (sound : IsSound h) where
         ∙ posted_by h.nodes h.departed (on_mesh h.mesh) sound.left (fits_of h sound) a r l here
         (stands h.nodes h.departed r sound.left started stays)
 
-  module _ (w : Mailed) (is : h ≡ w) (d : Delivery) (k : Mesh SentLetter) (all_sent : w.unsent ≡ None)
+  module _ (w : Mailed) (is : h ≡ w) (d : Delivery) (k : MeshState SentLetter) (all_sent : w.unsent ≡ None)
       (link : IsBetween d.link (name_of d.sender) d.receiver w.nodes)
       (first : IsFirstSender (name_of d.sender) d.receiver (Some d.sender) (links_of w)) (same : k.nodes ≡ h.mesh.nodes)
       (took : on_mesh k ≡ taken (from_of d.link h.mesh) (to_of d.link h.mesh) (on_mesh h.mesh)) where
@@ -81,7 +81,7 @@ module _ (h : Mailed) (sound : IsSound h) where
         ∙ ap (λ (u : Option Unsent). taken d.sender d.receiver (with_unsent u (on_links h))) (sym all_there)
         ∙ ap (λ (m : Mailed). taken d.sender d.receiver (links_of m)) is
 
-  module _ (d : ℕ) (more : List ℕ) (k : Mesh SentLetter) (result : Result Unit LinkFault) (here : set_of h.nodes d ≡ true)
+  module _ (d : ℕ) (more : List ℕ) (k : MeshState SentLetter) (result : Result Unit LinkFault) (here : set_of h.nodes d ≡ true)
       (same : k.nodes ≡ h.mesh.nodes) (ok : OnOk result (on_mesh k ≡ closed_out (name_of d) (on_mesh h.mesh)))
       (err : IfErr result (λ fault. IsStranger fault (name_of d) h.mesh))
       (are : (c : ℕ) → with_older more c ≡ (with_older h.nodes c && (with_older h.departed c || with_older (d ∷ []) c))) where
@@ -104,7 +104,7 @@ module _ (h : Mailed) (sound : IsSound h) where
         ∙ closed_by h.nodes h.departed (on_mesh h.mesh) sound.left (fits_of h sound) d more here with_it)
         ∙ closed_behind h.unsent d (on_links h)
 
-  module _ (older next : ℕ) (now : List ℕ) (k : Mesh SentLetter) (result : Result Unit LinkFault) (is : IsNext older next)
+  module _ (older next : ℕ) (now : List ℕ) (k : MeshState SentLetter) (result : Result Unit LinkFault) (is : IsNext older next)
       (known : set_of h.nodes older ≡ true) (away : with_older h.departed older ≡ true) (all : h.unsent ≡ None)
       (same : k.nodes ≡ h.mesh.nodes) (ok : OnOk result (on_mesh k ≡ reopened (name_of older) (on_mesh h.mesh)))
       (err : IfErr result (λ fault. IsStranger fault (name_of older) h.mesh)) (are : now ≡ succeeded older next h.nodes) where
@@ -275,7 +275,7 @@ module _ (a : ℕ) (w : Mailed) (ws : List (ℕ × Letter)) where
     }
 
     -- it is on its link
-    pub sending_one : (k : Mesh SentLetter) (n y : ℕ) (s : SentLetter) → set_of w.nodes a ≡ true → with_older m.departed r ≡ false
+    pub sending_one : (k : MeshState SentLetter) (n y : ℕ) (s : SentLetter) → set_of w.nodes a ≡ true → with_older m.departed r ≡ false
         → n ≡ name_of a → y ≡ name_of r → s ≡ record { sender = a; letter = l } → k.nodes ≡ m.mesh.nodes
         → on_mesh k ≡ posted n (only_to y s) (on_mesh m.mesh) → IsSending a w ws (record m { mesh = k }) rest
     sending_one k n y s here stays from to is same put = record {
@@ -302,10 +302,10 @@ module _ (a : ℕ) (w : Mailed) (ws : List (ℕ × Letter)) where
             ∙ ap (λ (x : SentLetter). posted (name_of a) (only_to (name_of r) x) (on_mesh m.mesh)) is
 
     -- memory was refused, and it is put back in front of the others
-    pub sending_back : (k : Mesh SentLetter) (qs : List (ℕ × Letter)) (j : Letter) → k ≡ m.mesh → qs ≡ (r, j) ∷ rest → j ≡ l
+    pub sending_back : (k : MeshState SentLetter) (qs : List (ℕ × Letter)) (j : Letter) → k ≡ m.mesh → qs ≡ (r, j) ∷ rest → j ≡ l
         → IsSending a w ws (record m { mesh = k }) qs
     sending_back k qs j same put is =
-        subst (λ (e : Mesh SentLetter). IsSending a w ws (record m { mesh = e }) qs) (sym same)
+        subst (λ (e : MeshState SentLetter). IsSending a w ws (record m { mesh = e }) qs) (sym same)
         (subst (λ (ss : List (ℕ × Letter)). IsSending a w ws m ss)
         (are ∙ ap (λ (x : Letter). (r, x) ∷ rest) (sym is) ∙ sym put) S)
 

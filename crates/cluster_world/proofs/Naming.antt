@@ -16,8 +16,8 @@ use Rattle.term.specs.Nodes.{text_in, name_of, creation_of, first_node}
 use Rattle.term.specs.NodeSets.{set_of, names_in, with_older, succeeded}
 use Rattle.term.proofs.Numbers.{of_both, first_node-eq}
 use Rattle.term.proofs.Older.{reaching, reached, held}
-use Rattle.node_core.specs.Held.{HaveLeft, IsNext, bound_of}
-use Rattle.cluster_world.specs.Held.{Held, nodes_of}
+use Rattle.node_core.specs.CoreState.{HaveLeft, IsNext, bound_of}
+use Rattle.cluster_world.specs.WorldState.{WorldState, nodes_of}
 use Rattle.cluster_world.specs.Openings.{name_bound, is_named_in, named_opening, creation_in, present_in}
 use Rattle.cluster_world.specs.Seen.{names_of, named}
 
@@ -143,7 +143,7 @@ started_in nodes n one known = elim (cases_lt (creation_of m.0) (creation_of n))
     now : present_in nodes (text_in n) ≡ creation_of m.0
     now = ap (present_in nodes) (sym (name_of-text m.0 n m.2)) ∙ present_is nodes m.0 one m.1
 
-module _ (h : Held) (one : OneOfEach (nodes_of h)) where
+module _ (h : WorldState) (one : OneOfEach (nodes_of h)) where
   -- the present node of a name
   pub present_node_is : (m : ℕ) → set_of (nodes_of h) m ≡ true → present_node (names_of h) (named h) (text_in m) ≡ m
   present_node_is m e = ap (λ (c : ℕ). name_of m + (c - 1)) (present_is (nodes_of h) m one e) ∙ sym (of_both m)

@@ -8,9 +8,9 @@ use Rattle.registry_model.specs.Process.{Nodes}
 use Rattle.protocol_model.specs.Links.{Links, is_nil, posted, closed_out}
 use Rattle.term.specs.Nodes.{name_of}
 use Rattle.term.specs.NodeSets.{with_older}
-use Rattle.link.specs.Held.{only_to}
+use Rattle.link.specs.MeshState.{only_to}
 use Rattle.node_core.specs.declared.Letter.{Letter}
-use Rattle.node_core.specs.Held.{HaveLeft}
+use Rattle.node_core.specs.CoreState.{HaveLeft}
 use Rattle.cluster_world.specs.Links.{letters_to, Unsent, with_unsent, rest_as, IsFirstSender, WaitsFirst, IsLeastOpen, lesser, earlier}
 use Rattle.cluster_world.specs.Mail.{AreOwn}
 use Rattle.cluster_world.proofs.Listed.{known_place}

@@ -16,20 +16,20 @@ use Rattle.getting_through.proofs.NamedRuns.{after_events-push}
 use Rattle.term.specs.Nodes.{name_of}
 use Rattle.term.specs.NodeSets.{set_of, names_in, with_older}
 use Rattle.term.proofs.Older.{held}
-use Rattle.link.specs.Held.{place}
+use Rattle.link.specs.MeshState.{place}
 use Rattle.node_core.specs.declared.Call.TheVariants.{Spawn, Whereis, RegisteredNames, Notices, Register, ReRegister, Unregister, SetLock, DelLock, Join as JoinBy}
 use Rattle.node_core.specs.declared.Call.{Call as ClientCall}
-use Rattle.node_core.specs.Held.{Held as Core, HaveLeft, bound_of}
+use Rattle.node_core.specs.CoreState.{CoreState, HaveLeft, bound_of}
 use Rattle.node_core.specs.Seen.{node_of}
 use Rattle.node_core.specs.NodeEventsSeen.{fault_of}
 use Rattle.node_core.specs.declared.StepFault.{StepFault}
 use Rattle.node_core.specs.Steps.{IsTurn, IsAskedWithin, IsHeardWithin, refusal_of as node_refusal}
-use Rattle.world_events.specs.declared.events.Event.{Event}
-use Rattle.world_events.specs.declared.events.Event.TheVariants.{Call, Retry, Exit, Leave}
+use Rattle.world_events.specs.declared.events.LocalEvent.{LocalEvent}
+use Rattle.world_events.specs.declared.events.LocalEvent.TheVariants.{Call, Retry, Exit, Leave}
 use Rattle.world_events.specs.declared.refusal.Refusal.TheVariants.{NoSuchNode, NodeLeft, Step}
 use Rattle.world_events.specs.declared.events.WorldEvent.TheVariants.{At}
 use Rattle.world_events.specs.Events.{node_event, own_event_of, is_leave, knows_contact}
-use Rattle.cluster_world.specs.Held.{Held, nodes_of}
+use Rattle.cluster_world.specs.WorldState.{WorldState, nodes_of}
 use Rattle.cluster_world.specs.Openings.{present_in}
 use Rattle.cluster_world.specs.Playing.{RefusedWith}
 use Rattle.cluster_world.specs.Seen.{names_of, opening_of, seen, named}
@@ -108,7 +108,7 @@ own_asks nodes (DelLock p id asked) known = tt
 own_asks nodes (JoinBy m) known = known
 
 -- it hears nobody
-pub own_hears : (nodes : List ℕ) (a : ℕ) (e : Event) → knows_contact nodes e ≡ true
+pub own_hears : (nodes : List ℕ) (a : ℕ) (e : LocalEvent) → knows_contact nodes e ≡ true
     → IsHeardWithin nodes a (node_event e)
 own_hears nodes a (Call c) known = own_asks nodes c known
 own_hears nodes a Retry known = tt
@@ -116,7 +116,7 @@ own_hears nodes a (Exit p) known = tt
 own_hears nodes a Leave known = tt
 
 -- an event of a node that has started names no other node than its contact
-other_of : (nodes : List ℕ) (a : ℕ) (e : Event) → with_older nodes a ≡ true
+other_of : (nodes : List ℕ) (a : ℕ) (e : LocalEvent) → with_older nodes a ≡ true
     → with_older nodes (other (AnyWorldEvent.At a (own_event_of e))) ≡ knows_contact nodes e
 other_of nodes a (Call Spawn) here = here
 other_of nodes a (Call (Whereis x)) here = here
@@ -133,14 +133,14 @@ other_of nodes a (Exit p) here = here
 other_of nodes a Leave here = here
 
 -- what only a leave does with the nodes of the world
-pub not_leave : (n a : ℕ) (s t : Nodes) (e : Event) (u : Turn) → is_leave e ≡ false
+pub not_leave : (n a : ℕ) (s t : Nodes) (e : LocalEvent) (u : Turn) → is_leave e ≡ false
     → event n a s (own_event_of e) u ≡ event n a t (own_event_of e) u
 not_leave n a s t (Call c) u other = refl
 not_leave n a s t Retry u other = refl
 not_leave n a s t (Exit p) u other = refl
 not_leave n a s t Leave u other = cc
 
-module _ (h : Held) (left : HaveLeft (nodes_of h) h.links.departed) where
+module _ (h : WorldState) (left : HaveLeft (nodes_of h) h.links.departed) where
   -- the world has the node and it has started just where it is at present or older
   pub seen_known : (n : ℕ) → (has_started (names_of h) (named h) n && in_world (opening_of h) n) ≡ with_older (nodes_of h) n
   seen_known n = go (names_in (nodes_of h) (name_of n)) refl
@@ -165,7 +165,7 @@ module _ (h : Held) (left : HaveLeft (nodes_of h) h.links.departed) where
       → (has_started (names_of h) (named h) n ≡ true) × (in_world (opening_of h) n ≡ true)
   started_of n e = and_parts (has_started (names_of h) (named h) n) (in_world (opening_of h) n) (seen_known n ∙ e)
 
-  module _ (a : ℕ) (e : Event) where
+  module _ (a : ℕ) (e : LocalEvent) where
     abbrev why : Option AnyRefusal
     why = first_cause (causes a ((seen h).node a) (own_event_of e))
 
@@ -217,14 +217,14 @@ module _ (h : Held) (left : HaveLeft (nodes_of h) h.links.departed) where
         (here, sym (other_of (nodes_of h) a e here) ∙ sym (seen_known contact) ∙ o.contact, o.runs, o.rest)
 
 -- why the node refuses
-own_refusal : (e : Event) (c : Core) → node_refusal (node_event e) c ≡ first_cause (causes c.name (node_of c) (own_event_of e))
+own_refusal : (e : LocalEvent) (c : CoreState) → node_refusal (node_event e) c ≡ first_cause (causes c.name (node_of c) (own_event_of e))
 own_refusal (Call c) k = refl
 own_refusal Retry k = refl
 own_refusal (Exit p) k = refl
 own_refusal Leave k = refl
 
 -- an event that is accepted, with what it makes
-module _ (h : Held) (e : NamedEvent) (E : AnyWorldEvent) (is : plain (names_of h) (named h) e ≡ E ∷ [])
+module _ (h : WorldState) (e : NamedEvent) (E : AnyWorldEvent) (is : plain (names_of h) (named h) e ≡ E ∷ [])
     (present : present_after (names_of h) (named h) e ≡ present_in (nodes_of h))
     (free : named_refusal (names_of h) (named h) e ≡ None) (plain_free : refusal (opening_of h) (seen h) E ≡ None) where
   abbrev run_of : List AnyWorldEvent → World
@@ -251,12 +251,12 @@ module _ (h : Held) (e : NamedEvent) (E : AnyWorldEvent) (is : plain (names_of h
       (sym free)
 
 -- where an event happened, one more made the world what it is
-pub reached_more : (h : Held) (whole : IsWhole h) (e : NamedEvent) (v : NamedWorld) → v ≡ happens_named (names_of h) (named h) e
+pub reached_more : (h : WorldState) (whole : IsWhole h) (e : NamedEvent) (v : NamedWorld) → v ≡ happens_named (names_of h) (named h) e
     → v ≡ after_events (names_of h) (whole.events ++ e ∷ [])
 reached_more h whole e v is = is ∙ ap (λ (w : NamedWorld). happens_named (names_of h) w e) whole.reached
     ∙ sym (after_events-push (names_of h) whole.events e)
 
-module _ (h : Held) (whole : IsWhole h) (left : HaveLeft (nodes_of h) h.links.departed) (a i : ℕ) (e : Event) (core : Core)
+module _ (h : WorldState) (whole : IsWhole h) (left : HaveLeft (nodes_of h) h.links.departed) (a i : ℕ) (e : LocalEvent) (core : CoreState)
     (there : place a (nodes_of h) ≡ Some i) (is : core ≡ get_or h.cores i core) where
   why_is : first_cause (causes a ((seen h).node a) (own_event_of e)) ≡ node_refusal (node_event e) core
   why_is = ap (λ (v : Node). first_cause (causes a v (own_event_of e))) (node_is h whole a i core there is)
@@ -283,7 +283,7 @@ module _ (h : Held) (whole : IsWhole h) (left : HaveLeft (nodes_of h) h.links.de
         asks : (c : ClientCall) → knows_contact (nodes_of h) (Call c) ≡ true → IsAskedWithin core.world c
         asks c k = subst (λ (ns : List ℕ). IsAskedWithin ns c) (sym (world_so h whole a i core there is up)) (own_asks (nodes_of h) c k)
 
-        go : (e : Event) → knows_contact (nodes_of h) e ≡ true → IsTurn number (node_event e) core u
+        go : (e : LocalEvent) → knows_contact (nodes_of h) e ≡ true → IsTurn number (node_event e) core u
             → u ≡ event (bound_of core.world) core.name (set_of core.world) (own_event_of e) (begun (node_of core))
         go (Call c) k t = t (asks c k)
         go Retry k t = t
@@ -305,14 +305,14 @@ module _ (h : Held) (whole : IsWhole h) (left : HaveLeft (nodes_of h) h.links.de
   takes free = let f = accepts h left a e free in sym why_is ∙ f.3
 
 -- by another event than a leave nobody leaves
-pub stays : (h : Held) (a : ℕ) (e : Event) → is_leave e ≡ false
+pub stays : (h : WorldState) (a : ℕ) (e : LocalEvent) → is_leave e ≡ false
     → accepted (opening_of h) (seen h) (AnyWorldEvent.At a (own_event_of e))
     ≡ apply a (event (opening_of h).bound a (set_of (nodes_of h)) (own_event_of e) (begun ((seen h).node a))) (seen h)
 stays h a e other = plainly e other
     ∙ ap (λ (u : Turn). apply a u (seen h))
     (not_leave (opening_of h).bound a (in_world (opening_of h)) (set_of (nodes_of h)) e (begun ((seen h).node a)) other)
   where
-    plainly : (e : Event) → is_leave e ≡ false → accepted (opening_of h) (seen h) (AnyWorldEvent.At a (own_event_of e))
+    plainly : (e : LocalEvent) → is_leave e ≡ false → accepted (opening_of h) (seen h) (AnyWorldEvent.At a (own_event_of e))
         ≡ apply a (turn_of (opening_of h) (seen h) (AnyWorldEvent.At a (own_event_of e))) (seen h)
     plainly (Call c) other = refl
     plainly Retry other = refl
@@ -320,7 +320,7 @@ stays h a e other = plainly e other
     plainly Leave other = cc
 
 -- a leave says so to all nodes of the world, and all links towards its node are closed
-module _ (h : Held) (left : HaveLeft (nodes_of h) h.links.departed) (a : ℕ) where
+module _ (h : WorldState) (left : HaveLeft (nodes_of h) h.links.departed) (a : ℕ) where
   abbrev pub leave_among : Nodes → Turn
   leave_among s = event (opening_of h).bound a s AnyEvent.Leave (begun ((seen h).node a))
 

@@ -12,7 +12,7 @@ use Rattle.protocol_model.specs.World.{Opening, in_world}
 use Rattle.registry_model.proofs.Updates.{by_test}
 use Rattle.term.specs.NodeSets.{set_of, with_older}
 use Rattle.term.proofs.Older.{held}
-use Rattle.link.specs.Held.{only_to}
+use Rattle.link.specs.MeshState.{only_to}
 use Rattle.node_core.specs.declared.Letter.{Letter}
 use Rattle.node_core.specs.Letters.{letter_of, send_of}
 use Rattle.node_core.specs.Steps.{IsSaidBy, GoWithin}

@@ -17,10 +17,10 @@ use Rattle.term.specs.NodeSets.{set_of, with_older}
 use Rattle.transaction.specs.declared.op.Op.{Op}
 use Rattle.node_core.specs.declared.node.Phase.{Phase}
 use Rattle.node_core.specs.declared.node.Phase.TheVariants as phase
-use Rattle.node_core.specs.Held.{Held as Core, HaveLeft}
+use Rattle.node_core.specs.CoreState.{CoreState, HaveLeft}
 use Rattle.node_core.specs.Joining.{join_number_of}
 use Rattle.node_core.specs.Seen.{node_of, phase_of, current_of}
-use Rattle.cluster_world.specs.Held.{Held, nodes_of}
+use Rattle.cluster_world.specs.WorldState.{WorldState, nodes_of}
 use Rattle.cluster_world.specs.Finishing.{seems_refused}
 use Rattle.cluster_world.specs.Playing.{WaitsOn}
 use Rattle.cluster_world.specs.Seen.{names_of, opening_of, seen, named}
@@ -46,23 +46,23 @@ at_work op awaited (phase.Writing asked reply) e = cc e
 at_work op awaited (phase.Joining k m) e = cc e
 
 -- at rest a registrar that is at an operation, and waits for no contact, was refused
-by_rest : (Up : ℕ → Type 0) (h : Held) (n : ℕ) (op : Option Op) (awaited : List ℕ) (p : Phase) (x : Current)
+by_rest : (Up : ℕ → Type 0) (h : WorldState) (n : ℕ) (op : Option Op) (awaited : List ℕ) (p : Phase) (x : Current)
     → current_of op awaited p ≡ x → AtRest Up (seen h) n x → (is_some op && is_none (join_number_of x)) ≡ is_waiting x
 by_rest Up h n None awaited p x e rest = ap is_waiting e
 by_rest Up h n (Some op) awaited p x e (Idle none free) = absurd (at_work op awaited p e)
 by_rest Up h n (Some op) awaited p x e (Refused o) = refl
 by_rest Up h n (Some op) awaited p x e (Knocks k m up joined waits once) = refl
 
-module _ (h : Held) (whole : IsWhole h) (went : HaveLeft (nodes_of h) h.links.departed) (none : WaitsOn None h) where
+module _ (h : WorldState) (whole : IsWhole h) (went : HaveLeft (nodes_of h) h.links.departed) (none : WaitsOn None h) where
   -- the node runs, and its registrar was refused
   abbrev refused : ℕ → Bool
   refused n = not (left (seen h) n) && is_waiting ((seen h).node n).current
 
-  same : (k : ℕ) (d : Core) → k < length h.cores → refused (get_or h.cores k d).name
+  same : (k : ℕ) (d : CoreState) → k < length h.cores → refused (get_or h.cores k d).name
       ≡ seems_refused h.links.departed (get_or h.cores k d)
   same k d l = go (with_older h.links.departed c.name) refl
     where
-      c : Core
+      c : CoreState
       c = get_or h.cores k d
 
       up : with_older h.links.departed c.name ≡ false → IsUp (names_of h) (named h) c.name
@@ -109,14 +109,14 @@ module _ (h : Held) (whole : IsWhole h) (went : HaveLeft (nodes_of h) h.links.de
       ∙ found_by_name (seems_refused h.links.departed) refused h.cores same
 
   -- this core was refused, and none before it
-  pub this_refused : (cs : List Core) (i : ℕ) (c : Core) (x : ℕ) → cs ≡ h.cores → i < length cs → c ≡ get_or cs i c
+  pub this_refused : (cs : List CoreState) (i : ℕ) (c : CoreState) (x : ℕ) → cs ≡ h.cores → i < length cs → c ≡ get_or cs i c
       → NonePasses (seems_refused h.links.departed) i cs → seems_refused h.links.departed c ≡ true → x ≡ c.name
       → Some x ≡ first_refused (names_of h) (named h)
   this_refused cs i c x are l is before here its =
       this_first (seems_refused h.links.departed) h.cores cs i c x are l is before here its ∙ sym refused_is
 
   -- no core was
-  pub none_refused : (cs : List Core) (i : ℕ) → cs ≡ h.cores → length cs ≤ i
+  pub none_refused : (cs : List CoreState) (i : ℕ) → cs ≡ h.cores → length cs ≤ i
       → NonePasses (seems_refused h.links.departed) i cs → None ≡ first_refused (names_of h) (named h)
   none_refused cs i are le before =
       none_first (seems_refused h.links.departed) h.cores cs i are le before ∙ sym refused_is

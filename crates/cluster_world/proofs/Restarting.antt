@@ -34,10 +34,10 @@ use Rattle.term.proofs.NodePlaces.{place-Some}
 use Rattle.term.proofs.NodeSets.{set_of-with_node}
 use Rattle.term.proofs.Older.{held}
 use Rattle.term.proofs.Succeeded.{next_of}
-use Rattle.link.specs.Held.{place}
+use Rattle.link.specs.MeshState.{place}
 use Rattle.link.proofs.Places.{place-get_or}
 use Rattle.node_core.specs.declared.Letter.{Letter}
-use Rattle.node_core.specs.Held.{Held as Core, HaveLeft, IsNext, fresh_behind}
+use Rattle.node_core.specs.CoreState.{CoreState, HaveLeft, IsNext, fresh_behind}
 use Rattle.node_core.specs.Letters.{letter_of}
 use Rattle.node_core.specs.Seen.{node_of}
 use Rattle.world_history.specs.declared.entry.HistoryEntry.{HistoryEntry}
@@ -45,7 +45,7 @@ use Rattle.world_history.specs.Histories.{left_with, left_in, entries_of}
 use Rattle.world_history.proofs.Departures.{left_rises}
 use Rattle.world_history.proofs.Entries.{entered}
 use Rattle.cluster_world.specs.Cores.{core_of}
-use Rattle.cluster_world.specs.Held.{Held, nodes_of}
+use Rattle.cluster_world.specs.WorldState.{WorldState, nodes_of}
 use Rattle.cluster_world.specs.Links.{AreFit}
 use Rattle.cluster_world.specs.Mail.{Mailed, links_of}
 use Rattle.cluster_world.specs.Openings.{named_opening, present_in}
@@ -65,7 +65,7 @@ pub is_next : (a : ℕ) → creation_of a < last_creation → IsNext a (a + 1)
 is_next a l = record { is = refl; named = (let c : creation_of a < 4294967295 = l in omega (arith, c)) }
 
 -- the core of a node is one of the cores, and has its name
-found_core : (a : ℕ) (cs : List Core) (c : Core) → Some c ≡ core_of a cs → Contains cs c × (c.name ≡ a)
+found_core : (a : ℕ) (cs : List CoreState) (c : CoreState) → Some c ≡ core_of a cs → Contains cs c × (c.name ≡ a)
 found_core a [] c e = absurd (cc e)
 found_core a (d ∷ ds) c e = go (d.name == a) refl e (found_core a ds c)
   where
@@ -73,17 +73,17 @@ found_core a (d ∷ ds) c e = go (d.name == a) refl e (found_core a ds c)
         → (Some c ≡ core_of a ds → Contains ds c × (c.name ≡ a)) → Contains (d ∷ ds) c × (c.name ≡ a)
     go true q f more =
         let same : c ≡ d = cc f in
-        (subst (λ (x : Core). Contains (d ∷ ds) x) (sym same) (0, omega arith, refl), ap core_name same ∙ eqb-true d.name a q)
+        (subst (λ (x : CoreState). Contains (d ∷ ds) x) (sym same) (0, omega arith, refl), ap core_name same ∙ eqb-true d.name a q)
     go false q f more =
         let m : Contains ds c × (c.name ≡ a) = more f in
         ((suc m.0.0, (let l : m.0.0 < length ds = m.0.1 in omega arith), m.0.2), m.1)
 
 -- where it runs, it knows the nodes at present
-pub core_world : (h : Held) → IsWhole h → (a : ℕ) (c : Core) → Some c ≡ core_of a h.cores → with_older h.links.departed a ≡ false
+pub core_world : (h : WorldState) → IsWhole h → (a : ℕ) (c : CoreState) → Some c ≡ core_of a h.cores → with_older h.links.departed a ≡ false
     → c.world ≡ nodes_of h
 core_world h whole a c e stays =
     let f : Contains h.cores c × (c.name ≡ a) = found_core a h.cores c e in
-    subst (λ (d : Core). with_older h.links.departed d.name ≡ false → d.world ≡ nodes_of h) f.0.2
+    subst (λ (d : CoreState). with_older h.links.departed d.name ≡ false → d.world ≡ nodes_of h) f.0.2
     (whole.worlds f.0.0 c f.0.1) (ap (with_older h.links.departed) f.1 ∙ stays)
 
 -- one of two is true where the second is
@@ -128,7 +128,7 @@ left_fold (e ∷ es) l r same c = left_fold es (left_with l e) (effect e r) (lef
 rising_pairs : (xs : List ℕ) → AllPairs (λ c d. c < d) xs → IsStrictlyIncreasing xs
 rising_pairs xs pairs = λ k l. pairs k (k + 1) 0 (omega arith) l
 
-module _ (h : Held) (whole : IsWhole h) (went : HaveLeft (nodes_of h) h.links.departed) (a x p : ℕ)
+module _ (h : WorldState) (whole : IsWhole h) (went : HaveLeft (nodes_of h) h.links.departed) (a x p : ℕ)
     (there : place a (nodes_of h) ≡ Some p) (same : name_of a ≡ x)
     (accepted : named_refusal (names_of h) (named h) (Restart (text_in x)) ≡ None) where
   known : set_of (nodes_of h) a ≡ true
@@ -196,7 +196,7 @@ module _ (h : Held) (whole : IsWhole h) (went : HaveLeft (nodes_of h) h.links.de
           (λ q. cc (e, (anew.departed c).1 (contains_set (who_left (names_of h) (named h)) c q))))
 
   -- the core that starts
-  abbrev started : Core
+  abbrev started : CoreState
   started = fresh_behind (a + 1) (succeeded a (a + 1) (nodes_of h)) ((a + 1) ∷ []) h.links.departed false
 
   turned : (c : ℕ) → ((a + 1 == c) || false) ≡ (c == a + 1)
@@ -210,14 +210,14 @@ module _ (h : Held) (whole : IsWhole h) (went : HaveLeft (nodes_of h) h.links.de
     replica = record (fresh_node (with_older h.links.departed) (a + 1)).replica { members = s };
   }) (fun_ext turned)
 
-  module _ (cores past : List Core) (links : Mailed) (history : List HistoryEntry) (core last : Core)
+  module _ (cores past : List CoreState) (links : Mailed) (history : List HistoryEntry) (core last : CoreState)
       (is : core ≡ get_or h.cores p core)
       (made : cores ≡ set (map (replaced_in h.links.departed a (a + 1)) h.cores) p started)
       (kept : past ≡ h.past ++ last ∷ []) (was : last ≡ replaced_in h.links.departed a (a + 1) core)
       (nodes_are : links.nodes ≡ succeeded a (a + 1) (nodes_of h)) (left_are : links.departed ≡ h.links.departed)
       (linked : links_of links ≡ links_of h.links) (entered_so : history ≡ h.history ++ HistoryEntry.Restart (a + 1) ∷ []) where
     -- what is held behind it
-    abbrev behind : Held
+    abbrev behind : WorldState
     behind = record { cluster = h.cluster; cores = cores; past = past; links = links; history = history }
 
     abbrev nodes : List ℕ
@@ -236,7 +236,7 @@ module _ (h : Held) (whole : IsWhole h) (went : HaveLeft (nodes_of h) h.links.de
     last_named : last.name ≡ a
     last_named = ap core_name was ∙ name_kept h.links.departed a (a + 1) core ∙ core_named
 
-    abbrev before : List Core
+    abbrev before : List CoreState
     before = map (replaced_in h.links.departed a (a + 1)) h.cores
 
     names_then : map core_name (set before p started) ≡ later
@@ -264,7 +264,7 @@ module _ (h : Held) (whole : IsWhole h) (went : HaveLeft (nodes_of h) h.links.de
     next_core = core_here core_name (set before p started) p started (a + 1)
         (omega (arith, within_before, length-set before p started))
         (ap (place (a + 1)) names_then ∙ next_place)
-        ∙ ap (λ (c : Core). let r : Option Core = Some c in r) (get_or-set_same before p started started within_before)
+        ∙ ap (λ (c : CoreState). let r : Option CoreState = Some c in r) (get_or-set_same before p started started within_before)
 
     gone_core : core_of a (set before p started) ≡ None
     gone_core = no_core core_name (set before p started) a
@@ -275,7 +275,7 @@ module _ (h : Held) (whole : IsWhole h) (went : HaveLeft (nodes_of h) h.links.de
         ∙ ap (λ (ns : List ℕ). get_or ns p 0) (names_kept h.links.departed a (a + 1) h.cores ∙ whole.names) ∙ (place-Some a nodes p there).1
 
     other_core : (y : ℕ) → (y ≡ a → ⊥) → (y ≡ a + 1 → ⊥) → core_of y (set before p started) ≡ core_of y before
-    other_core y ne other = find_past (λ (c : Core). c.name == y) before p started started
+    other_core y ne other = find_past (λ (c : CoreState). c.name == y) before p started started
         (ne_eqb (get_or before p started).name y (λ e. ne (sym e ∙ before_named)))
         (ne_eqb (a + 1) y (λ e. other (sym e)))
 
@@ -290,7 +290,7 @@ module _ (h : Held) (whole : IsWhole h) (went : HaveLeft (nodes_of h) h.links.de
           subst (λ (n : ℕ). after.world.node n ≡ fresh_node (with_older h.links.departed) n) next_is anew.node in
           subst (λ (n : ℕ). node_with O n (or_else (core_of n (set before p started)) (core_of n (h.past ++ last ∷ [])))
           ≡ after.world.node n) (sym e)
-          (ap (λ (c : Option Core). node_with O (a + 1) (or_else c (core_of (a + 1) (h.past ++ last ∷ [])))) next_core
+          (ap (λ (c : Option CoreState). node_with O (a + 1) (or_else c (core_of (a + 1) (h.past ++ last ∷ [])))) next_core
           ∙ started_seen ∙ sym here)
       | inr other ↦ as_before y other (cases_eq y a) ∙ sym (anew.others y (λ e. other (e ∙ next_is)))
     ]
@@ -299,15 +299,15 @@ module _ (h : Held) (whole : IsWhole h) (went : HaveLeft (nodes_of h) h.links.de
             → node_with O y (or_else (core_of y (set before p started)) (core_of y (h.past ++ last ∷ []))) ≡ (seen h).node y
         as_before y other (inl e) = subst (λ (n : ℕ). node_with O n (or_else (core_of n (set before p started))
             (core_of n (h.past ++ last ∷ []))) ≡ (seen h).node n) (sym e)
-            (ap (λ (c : Option Core). node_with O a (or_else c (core_of a (h.past ++ last ∷ [])))) gone_core
-            ∙ ap (λ (c : Option Core). node_with O a c) (found_last a h.past last (none_past nodes a h.past known whole.older) last_named)
+            (ap (λ (c : Option CoreState). node_with O a (or_else c (core_of a (h.past ++ last ∷ [])))) gone_core
+            ∙ ap (λ (c : Option CoreState). node_with O a c) (found_last a h.past last (none_past nodes a h.past known whole.older) last_named)
             ∙ ap node_of was ∙ node_kept h.links.departed a (a + 1) core
             ∙ sym (node_is h whole a p core there is))
         as_before y other (inr ne) =
-            ap (λ (c : Option Core). node_with O y (or_else c (core_of y (h.past ++ last ∷ []))))
+            ap (λ (c : Option CoreState). node_with O y (or_else c (core_of y (h.past ++ last ∷ []))))
             (other_core y ne other ∙ found_kept h.links.departed a (a + 1) y h.cores)
             ∙ seen_kept h.links.departed a (a + 1) O y (core_of y h.cores) (core_of y (h.past ++ last ∷ []))
-            ∙ ap (λ (c : Option Core). node_with O y (or_else (core_of y h.cores) c))
+            ∙ ap (λ (c : Option CoreState). node_with O y (or_else (core_of y h.cores) c))
             (found_past y h.past last (λ e. ne (sym e ∙ last_named)))
 
     queue_then : (f t : ℕ) → (over O later (links_of h.links)).queue f t ≡ after.world.links.queue f t
@@ -351,8 +351,8 @@ module _ (h : Held) (whole : IsWhole h) (went : HaveLeft (nodes_of h) h.links.de
         ∙ ap (λ (ns : List ℕ). named_by ns h.cluster (λ y. core_at y behind) (links_of links) (entries_of history)) nodes_are
         ∙ ap (λ (w : Links Letter). named_by later h.cluster (λ y. core_at y behind) w (entries_of history)) linked
         ∙ ap (λ (es : List HistoryEntry). named_by later h.cluster (λ y. core_at y behind) (links_of h.links) (entries_of es)) entered_so
-        ∙ ap (λ (cs : List Core). named_by later h.cluster (λ y. or_else (core_of y cs) (core_of y past)) (links_of h.links) es) made
-        ∙ ap (λ (ps : List Core). named_by later h.cluster (λ y. or_else (core_of y (set before p started)) (core_of y ps))
+        ∙ ap (λ (cs : List CoreState). named_by later h.cluster (λ y. or_else (core_of y cs) (core_of y past)) (links_of h.links) es) made
+        ∙ ap (λ (ps : List CoreState). named_by later h.cluster (λ y. or_else (core_of y (set before p started)) (core_of y ps))
         (links_of h.links) es) kept
         ∙ ap (λ (o : NamedOpening). world_of
         (λ y. node_with (all_creations o) y (or_else (core_of y (set before p started)) (core_of y (h.past ++ last ∷ []))))
@@ -382,15 +382,15 @@ module _ (h : Held) (whole : IsWhole h) (went : HaveLeft (nodes_of h) h.links.de
       set = subst IsNodeSet (sym nodes_are) (record { rising = rising_then; fits = fits });
       cluster = whole.cluster;
       names = ap (map core_name) made ∙ names_then ∙ sym nodes_are;
-      worlds = subst (λ (cs : List Core). All (λ (c : Core). with_older links.departed c.name ≡ false → c.world ≡ links.nodes) cs) (sym made)
-          (All-set (λ (c : Core). with_older links.departed c.name ≡ false → c.world ≡ links.nodes) before p started
+      worlds = subst (λ (cs : List CoreState). All (λ (c : CoreState). with_older links.departed c.name ≡ false → c.world ≡ links.nodes) cs) (sym made)
+          (All-set (λ (c : CoreState). with_older links.departed c.name ≡ false → c.world ≡ links.nodes) before p started
           (λ up. sym nodes_are)
-          (All-map (λ (c : Core). with_older links.departed c.name ≡ false → c.world ≡ links.nodes)
+          (All-map (λ (c : CoreState). with_older links.departed c.name ≡ false → c.world ≡ links.nodes)
           (replaced_in h.links.departed a (a + 1)) h.cores
           (λ k d l up. world_kept h.links.departed a (a + 1) nodes (get_or h.cores k d) (whole.worlds k d l)
           (ap (λ (ds : List ℕ). with_older ds (replaced_in h.links.departed a (a + 1) (get_or h.cores k d)).name) (sym left_are) ∙ up)
           ∙ sym nodes_are)));
-      older = subst (λ (cs : List Core). All (IsOlder links.nodes) cs) (sym kept)
+      older = subst (λ (cs : List CoreState). All (IsOlder links.nodes) cs) (sym kept)
           (subst (λ (ns : List ℕ). All (IsOlder ns) (h.past ++ last ∷ [])) (sym nodes_are)
           (All-push (IsOlder later) h.past last (λ k d l. still (get_or h.past k d) (whole.older k d l))
           (subst (λ (n : ℕ). (with_older later n ≡ true) × (set_of later n ≡ false)) (sym last_named) (
@@ -407,13 +407,13 @@ module _ (h : Held) (whole : IsWhole h) (went : HaveLeft (nodes_of h) h.links.de
           ∙ ap (λ (o : NamedOpening). after_events o (whole.events ++ Restart (text_in x) ∷ [])) (sym names_back);
     }
       where
-        IsOlder : List ℕ → Core → Type 0
+        IsOlder : List ℕ → CoreState → Type 0
         IsOlder ns c = (with_older ns c.name ≡ true) × (set_of ns c.name ≡ false)
 
         fits : length later ≤ MOST_NODES
         fits = let l : length nodes ≤ MOST_NODES = whole.set.fits in omega (arith, long, l)
 
-        still : (c : Core) → (with_older nodes c.name ≡ true) × (set_of nodes c.name ≡ false)
+        still : (c : CoreState) → (with_older nodes c.name ≡ true) × (set_of nodes c.name ≡ false)
             → (with_older later c.name ≡ true) × (set_of later c.name ≡ false)
         still c o = (
           started_still nodes h.links.departed went a known gone_then next_named c.name o.0,

@@ -11,7 +11,7 @@ use Rattle.getting_through.specs.NamedWorld.{NamedWorld, NamedEvent, NamedRefusa
 use Rattle.node_core.specs.declared.Answer.{Answer}
 use Rattle.node_core.specs.NodeEventsSeen.{answer_of}
 use Rattle.world_events.specs.declared.events.WorldEvent.{WorldEvent}
-use Rattle.cluster_world.specs.Held.{Held}
+use Rattle.cluster_world.specs.WorldState.{WorldState}
 use Rattle.world_events.specs.Events.{named_event}
 use Rattle.cluster_world.specs.Seen.{names_of, named}
 use Rattle.world_events.specs.declared.refusal.Refusal.{Refusal}
@@ -61,7 +61,7 @@ events-push [] k e h = cc
 events-push (d ∷ es) zero e h = ap (λ (o : WorldEvent). named_event o ∷ []) (cc h)
 events-push (d ∷ es) (suc k) e h = ap (λ (l : List NamedEvent). named_event d ∷ l) (events-push es k e h)
 
-pub so_far_more : (es : List WorldEvent) (old mid new : Held) (k : ℕ) (given now : List Answer) (e : WorldEvent)
+pub so_far_more : (es : List WorldEvent) (old mid new : WorldState) (k : ℕ) (given now : List Answer) (e : WorldEvent)
     → IsSoFar es old mid k given → slice_get es k ≡ Some e → Played e mid new given now → IsSoFar es old new (k + 1) now
 so_far_more es old mid new k given now e S at P = record {
   names = P.names ∙ S.names;
@@ -93,7 +93,7 @@ so_far_more es old mid new k given now e S at P = record {
     next = sym (events-push es k e at) ∙ ap (λ (n : ℕ). events_of (take n es)) one_more
 
 -- an event that was played by itself, with its answers behind those given before
-pub played_behind : (e : WorldEvent) (old new : Held) (before now : List Answer) → Played e old new [] now
+pub played_behind : (e : WorldEvent) (old new : WorldState) (before now : List Answer) → Played e old new [] now
     → Played e old new before (before ++ now)
 played_behind e old new before now P = record {
   names = P.names;
@@ -115,7 +115,7 @@ pub fits_behind : (len cap most here small all n : ℕ) → here ≡ n → here 
 fits_behind len cap most here small all n same within under few made room = omega arith
 
 -- the next event is refused, which changes nothing
-pub ran_stopped : (es : List WorldEvent) (old mid new : Held) (k : ℕ) (given now : List Answer) (e : WorldEvent)
+pub ran_stopped : (es : List WorldEvent) (old mid new : WorldState) (k : ℕ) (given now : List Answer) (e : WorldEvent)
     (r : Refusal)
     → IsSoFar es old mid k given → k < length es → slice_get es k ≡ Some e → RefusedWith r e mid → Keeps mid new
     → named new ≡ named mid → now ≡ given → Ran es old new k now (Some r)
@@ -136,7 +136,7 @@ ran_stopped es old mid new k given now e r S within at refused K same kept = rec
 }
 
 -- all were played
-pub ran_all : (es : List WorldEvent) (old new : Held) (k : ℕ) (given : List Answer) → IsSoFar es old new k given
+pub ran_all : (es : List WorldEvent) (old new : WorldState) (k : ℕ) (given : List Answer) → IsSoFar es old new k given
     → k ≡ length es → Ran es old new (length es) given None
 ran_all es old new k given S all = subst (λ (i : ℕ). Ran es old new i given None) all (record {
   names = S.names;
@@ -149,17 +149,17 @@ ran_all es old new k given S all = subst (λ (i : ℕ). Ran es old new i given N
 })
 
 -- nothing was played
-pub went_nowhere : (h : Held) (given : List Answer) → WentThrough [] h h given given
+pub went_nowhere : (h : WorldState) (given : List Answer) → WentThrough [] h h given given
 went_nowhere h given = record { accepted = refl; world = refl; answers = sym (append-nil (map answer_of given)) }
 
 -- what was played stands in another state that the protocol sees the same
-pub stands_still : (es : List WorldEvent) (old mid new : Held) (given now : List Answer) → WentThrough es old mid given now
+pub stands_still : (es : List WorldEvent) (old mid new : WorldState) (given now : List Answer) → WentThrough es old mid given now
     → named new ≡ named mid → WentThrough es old new given now
 stands_still es old mid new given now W same =
     record { accepted = W.accepted; world = same ∙ W.world; answers = W.answers }
 
 -- one event was played
-pub went_one : (e : WorldEvent) (old new : Held) (given now : List Answer) → Played e old new given now
+pub went_one : (e : WorldEvent) (old new : WorldState) (given now : List Answer) → Played e old new given now
     → WentThrough (e ∷ []) old new given now
 went_one e old new given now P = record {
   accepted = ap (λ (r : Option NamedRefusal). is_none r && true) P.accepted;
@@ -169,7 +169,7 @@ went_one e old new given now P = record {
 }
 
 -- and others behind those
-pub went_along : (es ds : List WorldEvent) (old mid new : Held) (given before now : List Answer)
+pub went_along : (es ds : List WorldEvent) (old mid new : WorldState) (given before now : List Answer)
     → WentThrough es old mid given before → Keeps old mid → WentThrough ds mid new before now
     → WentThrough (es ++ ds) old new given now
 went_along es ds old mid new given before now W K V = record {

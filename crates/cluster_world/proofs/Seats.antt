@@ -10,17 +10,17 @@ use Rattle.node_core.specs.declared.Call.{Call}
 use Rattle.node_core.specs.NodeEventsSeen.{answer_of, call_of, fault_of}
 use Rattle.world_events.specs.declared.refusal.Refusal.{Refusal}
 use Rattle.world_events.specs.declared.refusal.Refusal.TheVariants.{NoSuchNode, NodeLeft, EmptyLink, StillRunning, NotToldYet, CreationsSpent, Step}
-use Rattle.world_events.specs.declared.events.Event.TheVariants.{Call as Calls, Retry}
+use Rattle.world_events.specs.declared.events.LocalEvent.TheVariants.{Call as Calls, Retry}
 use Rattle.world_events.specs.declared.events.WorldEvent.{WorldEvent}
 use Rattle.world_events.specs.declared.events.WorldEvent.TheVariants.{At, Deliver}
-use Rattle.cluster_world.specs.declared.seat.SeatFault.{SeatFault}
-use Rattle.cluster_world.specs.declared.seat.SeatFault.TheVariants.{Refused, NoMemory, NoAnswer}
+use Rattle.cluster_world.specs.declared.seat.WorldSeatFault.{WorldSeatFault}
+use Rattle.cluster_world.specs.declared.seat.WorldSeatFault.TheVariants.{Refused, NoMemory, NoAnswer}
 use Rattle.world_events.specs.Events.{named_event}
 use Rattle.term.specs.NodeSets.{set_of}
-use Rattle.node_core.specs.Held.{Held as Core}
+use Rattle.node_core.specs.CoreState.{CoreState}
 use Rattle.cluster_world.specs.Cores.{core_of}
 use Rattle.cluster_world.specs.Steps.{IsAdmitted}
-use Rattle.cluster_world.specs.Held.{Held, nodes_of}
+use Rattle.cluster_world.specs.WorldState.{WorldState, nodes_of}
 use Rattle.cluster_world.specs.Playing.{Keeps, Played, RefusedWith, WentThrough, WaitsOn, events_of, accepts_all, answers_to_all}
 use Rattle.world_events.specs.Refusals.{refusal_of, is_memory, out_of_memory}
 use Rattle.cluster_world.specs.Seats.{verdict_in, next_number, next_for, awaiting, until_answered, Waited, HasWaited, Called, SetsLock, IsUnplayed, Unanswered}
@@ -56,17 +56,17 @@ module _ (o : NamedOpening) (a k left : ℕ) (w : NamedWorld) where
   awaiting-end e r is refused = by_refusal (Some r) (ap (named_refusal o w) is ∙ refused)
 
 -- that is a retry where no letter waits, and else a delivery
-pub next_retry : (h : Held) (a b : ℕ) → b ≡ a → WaitsOn None h
+pub next_retry : (h : WorldState) (a b : ℕ) → b ≡ a → WaitsOn None h
     → named_event (At b Retry) ≡ next_for (names_of h) a (named h)
 next_retry h a b same none = ap (λ (x : ℕ). NamedEvent.AtNode x AnyEvent.Retry) same
     ∙ sym (ap (λ (o : Option NamedEvent). elim o [ None ↦ NamedEvent.AtNode a AnyEvent.Retry | Some e ↦ e ]) none)
 
-pub next_delivered : (h : Held) (a f t : ℕ) → WaitsOn (Some (f, t)) h
+pub next_delivered : (h : WorldState) (a f t : ℕ) → WaitsOn (Some (f, t)) h
     → named_event (Deliver f t) ≡ next_for (names_of h) a (named h)
 next_delivered h a f t waits =
     sym (ap (λ (o : Option NamedEvent). elim o [ None ↦ NamedEvent.AtNode a AnyEvent.Retry | Some e ↦ e ]) waits)
 
-module _ (es : List WorldEvent) (old mid new : Held) (given now : List Answer) (e : WorldEvent)
+module _ (es : List WorldEvent) (old mid new : WorldState) (given now : List Answer) (e : WorldEvent)
     (W : WentThrough es old mid [] given) (K : Keeps old mid) (P : Played e mid new [] now) where
   abbrev pub o : NamedOpening
   o = names_of old
@@ -91,7 +91,7 @@ module _ (es : List WorldEvent) (old mid new : Held) (given now : List Answer) (
 
 -- call k of node a still waits, and these events were played for it, at most so many; however many are played at most, what
 -- is left is what waits for it now
-pub record IsWaiting (a k : ℕ) (old mid : Held) (i : ℕ) : Type 0 where
+pub record IsWaiting (a k : ℕ) (old mid : WorldState) (i : ℕ) : Type 0 where
   pub kept : Keeps old mid
   pub events : List WorldEvent
   pub given : List Answer
@@ -100,7 +100,7 @@ pub record IsWaiting (a k : ℕ) (old mid : Held) (i : ℕ) : Type 0 where
       ≡ events_of events ++ awaiting (names_of old) a k left (named mid)
   pub silent : verdict_in a k (map answer_of given) ≡ None
 
-pub begins : (a k : ℕ) (h : Held) → IsWaiting a k h h zero
+pub begins : (a k : ℕ) (h : WorldState) → IsWaiting a k h h zero
 begins a k h = record {
   kept = record { names = refl; cluster = refl };
   events = [];
@@ -110,13 +110,13 @@ begins a k h = record {
   silent = refl;
 }
 
-as_many : (a k i : ℕ) (old mid : Held) (I : IsWaiting a k old mid i)
+as_many : (a k i : ℕ) (old mid : WorldState) (I : IsWaiting a k old mid i)
     → events_of I.events ≡ awaiting (names_of old) a k i (named old)
 as_many a k i old mid I = sym (ap (λ (n : ℕ). awaiting (names_of old) a k n (named old)) (sym (add-zero i))
     ∙ I.rest zero ∙ append-nil (events_of I.events))
 
 -- it has no answer yet, then
-pub ends : (a k i : ℕ) (old mid : Held) → IsWaiting a k old mid i → Waited a k i old mid None
+pub ends : (a k i : ℕ) (old mid : WorldState) → IsWaiting a k old mid i → Waited a k i old mid None
 ends a k i old mid I = record {
   events = I.events;
   given = I.given;
@@ -137,7 +137,7 @@ refusal_there (Step fault) e =
     let cause : (any : AnyRefusal) × (fault_of fault ≡ Some any) = has_cause fault e in
     (Plain cause.0, ap (option_map Plain) cause.1)
 
-module _ (a k : ℕ) (old mid new : Held) (i : ℕ) (e : WorldEvent) (within : i < MOST_EVENTS)
+module _ (a k : ℕ) (old mid new : WorldState) (i : ℕ) (e : WorldEvent) (within : i < MOST_EVENTS)
     (I : IsWaiting a k old mid i)
     (next : named_event e ≡ next_for (names_of mid) a (named mid)) where
   -- what is played in all, where this many events are left behind the next
@@ -194,9 +194,9 @@ module _ (a k : ℕ) (old mid new : Held) (i : ℕ) (e : WorldEvent) (within : i
     },
   )
 
-  pub refused_end : (r : Refusal) (fault : SeatFault) → RefusedWith r e mid → named new ≡ named mid
+  pub refused_end : (r : Refusal) (fault : WorldSeatFault) → RefusedWith r e mid → named new ≡ named mid
       → fault ≡ (if is_memory r then Refused out_of_memory else NoAnswer) → HasWaited a k old new (Err fault)
-  refused_end r fault refused same is = subst (λ (f : SeatFault). HasWaited a k old new (Err f)) (sym is)
+  refused_end r fault refused same is = subst (λ (f : WorldSeatFault). HasWaited a k old new (Err f)) (sym is)
       (go (is_memory r) refl)
     where
       go : (b : Bool) → is_memory r ≡ b
@@ -259,7 +259,7 @@ module _ (a k : ℕ) (old mid new : Held) (i : ℕ) (e : WorldEvent) (within : i
     }
 
 -- an event, and then others
-went_behind : (e : WorldEvent) (es : List WorldEvent) (old mid new : Held) (now given : List Answer) → Keeps old mid
+went_behind : (e : WorldEvent) (es : List WorldEvent) (old mid new : WorldState) (now given : List Answer) → Keeps old mid
     → Played e old mid [] now → WentThrough es mid new [] given → WentThrough (e ∷ es) old new [] (now ++ given)
 went_behind e es old mid new now given K P W = record {
   accepted = ap (λ (r : Option NamedRefusal). is_none r && accepts_all o (happens_named o (named old) (named_event e))
@@ -281,7 +281,7 @@ went_behind e es old mid new now given K P W = record {
     same : names_of mid ≡ names_of old
     same = K.names
 
-module _ (a : ℕ) (c : Call) (old mid : Held) (now : List Answer) (P : Played (At a (Calls c)) old mid [] now) where
+module _ (a : ℕ) (c : Call) (old mid : WorldState) (now : List Answer) (P : Played (At a (Calls c)) old mid [] now) where
   abbrev calls : WorldEvent
   calls = At a (Calls c)
 
@@ -292,7 +292,7 @@ module _ (a : ℕ) (c : Call) (old mid : Held) (now : List Answer) (P : Played (
   begun = record { names = P.names; cluster = P.cluster }
 
   -- a call whose events were these
-  called : (new : Held) (es : List WorldEvent) (given : List Answer) (most : ℕ) (v : Option Bool) → Keeps old new
+  called : (new : WorldState) (es : List WorldEvent) (given : List Answer) (most : ℕ) (v : Option Bool) → Keeps old new
       → WentThrough es old new [] given
       → events_of es ≡ until_answered (names_of old) a k most (named old) (named_event calls)
       → verdict_in a k (map answer_of given) ≡ v → Called a c most old new v
@@ -335,7 +335,7 @@ module _ (a : ℕ) (c : Call) (old mid : Held) (now : List Answer) (P : Played (
       (sym (until MOST_EVENTS (Some granted) q)) q
 
   -- or it waits
-  answered_later : (new : Held) (most : ℕ) (v : Option Bool) → Keeps mid new
+  answered_later : (new : WorldState) (most : ℕ) (v : Option Bool) → Keeps mid new
       → verdict_in a k (map answer_of now) ≡ None → Waited a k most mid new v → Called a c most old new v
   answered_later new most v K q W =
       called new (calls ∷ W.events) (now ++ W.given) most v
@@ -346,7 +346,7 @@ module _ (a : ℕ) (c : Call) (old mid : Held) (now : List Answer) (P : Played (
       ∙ verdict_in-append a k (map answer_of now) (map answer_of W.given) q ∙ W.answered)
 
   -- so does its seat
-  sets : (new : Held) (result : Result Bool SeatFault) → Keeps mid new
+  sets : (new : WorldState) (result : Result Bool WorldSeatFault) → Keeps mid new
       → verdict_in a k (map answer_of now) ≡ None → HasWaited a k mid new result → SetsLock a c old new result
   sets new (Ok granted) K q W = answered_later new MOST_EVENTS (Some granted) K q W
   sets new (Err NoMemory) K q W = absurd W
@@ -361,18 +361,18 @@ module _ (a : ℕ) (c : Call) (old mid : Held) (now : List Answer) (P : Played (
       no_memory e = cc
 
 -- the number of the next call of a node at present, by its core
-pub next_of : (a : ℕ) (h : Held) (c : Core) → Some c ≡ core_of a h.cores → c.last_call + 1 ≡ next_number a (seen h)
-next_of a h c e = ap (λ (o : Option Core). (node_with (opening_of h) a (or_else o (core_of a h.past))).last_call + 1) e
+pub next_of : (a : ℕ) (h : WorldState) (c : CoreState) → Some c ≡ core_of a h.cores → c.last_call + 1 ≡ next_number a (seen h)
+next_of a h c e = ap (λ (o : Option CoreState). (node_with (opening_of h) a (or_else o (core_of a h.past))).last_call + 1) e
 
 -- an event is refused
-pub refused_event : {X : Type 0} (e : WorldEvent) (old new : Held) (result : Result X SeatFault) (r : Refusal)
+pub refused_event : {X : Type 0} (e : WorldEvent) (old new : WorldState) (result : Result X WorldSeatFault) (r : Refusal)
     → IsErrAnd result (λ y. y ≡ Refused r) → RefusedWith r e old → (is_memory r ≡ false → new ≡ old) → named new ≡ named old
     → IfErr result (IsUnplayed e old new)
 refused_event e old new (Ok x) r h refused kept still = absurd h
 refused_event e old new (Err y) r h refused kept still = subst (IsUnplayed e old new) (sym h) (refused, kept, still)
 
 -- or there is no memory for it
-pub unplayed_event : {X : Type 0} (e : WorldEvent) (old new : Held) (p : ℕ) (result : Result X SeatFault)
+pub unplayed_event : {X : Type 0} (e : WorldEvent) (old new : WorldState) (p : ℕ) (result : Result X WorldSeatFault)
     → IsErrAnd result (λ y. y ≡ Refused out_of_memory) → IsAdmitted p e old → named new ≡ named old
     → IfErr result (IsUnplayed e old new)
 unplayed_event e old new p result h admitted still =
@@ -382,7 +382,7 @@ unplayed_event e old new p result h admitted still =
     no_memory e = cc
 
 -- so the call of the node that the seat looked up isn't answered
-pub unplayed_call : (a node b : ℕ) (c : Call) (old new : Held) (fault : SeatFault) → node ≡ a → b ≡ node
+pub unplayed_call : (a node b : ℕ) (c : Call) (old new : WorldState) (fault : WorldSeatFault) → node ≡ a → b ≡ node
     → IsUnplayed (At b (Calls c)) old new fault → Unanswered a c old new fault
 unplayed_call a node b c old new (Refused r) node_is b_is (refused, kept, still) = (
   subst (λ (x : ℕ). RefusedWith r (At x (Calls c)) old) (b_is ∙ node_is) refused,
@@ -393,7 +393,7 @@ unplayed_call a node b c old new NoMemory node_is b_is none = absurd none
 unplayed_call a node b c old new NoAnswer node_is b_is none = absurd none
 
 -- the same, where node and number are those that the seat looked up before the call was admitted at a place
-module _ (a node b n p : ℕ) (c : Call) (old mid : Held) (now given : List Answer) (v : Option Bool) (node_is : node ≡ a)
+module _ (a node b n p : ℕ) (c : Call) (old mid : WorldState) (now given : List Answer) (v : Option Bool) (node_is : node ≡ a)
     (b_is : b ≡ node) (admitted : IsAdmitted p (At b (Calls c)) old)
     (number_is : set_of (nodes_of old) node ≡ true → n ≡ next_number node (seen old))
     (P : Played (At b (Calls c)) old mid [] now)
@@ -413,7 +413,7 @@ module _ (a node b n p : ℕ) (c : Call) (old mid : Held) (now given : List Answ
   pub called_at_once : (granted : Bool) → v ≡ Some granted → Called a c MOST_EVENTS old mid (Some granted)
   called_at_once granted q = answered_at_once a c old mid now played granted (verdict_here ∙ q)
 
-  pub called_later : (new : Held) (result : Result Bool SeatFault) → Keeps mid new → v ≡ None
+  pub called_later : (new : WorldState) (result : Result Bool WorldSeatFault) → Keeps mid new → v ≡ None
       → HasWaited node n mid new result → SetsLock a c old new result
   called_later new result K q W = sets a c old mid now played new result K (verdict_here ∙ q)
       (subst (λ (x : ℕ). HasWaited x (next_number x (seen old)) mid new result) node_is

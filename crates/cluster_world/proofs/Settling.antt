@@ -16,13 +16,13 @@ use Rattle.getting_through.proofs.NamedDeliveries.{deliveries_by_names_lower}
 use Rattle.getting_through.proofs.NamedQuiet.{quiet_names_rest, quiet_names_answer}
 use Rattle.term.specs.Nodes.{text_in, name_of}
 use Rattle.term.proofs.NodePlaces.{place-Some}
-use Rattle.link.specs.Held.{place}
+use Rattle.link.specs.MeshState.{place}
 use Rattle.node_core.specs.declared.Answer.{Answer}
 use Rattle.world_events.specs.declared.events.WorldEvent.{WorldEvent}
 use Rattle.world_events.specs.declared.events.WorldEvent.TheVariants.{Deliver}
 use Rattle.world_events.specs.Events.{named_event}
 use Rattle.cluster_world.specs.declared.admission.Delivery.{Delivery}
-use Rattle.cluster_world.specs.Held.{Held, nodes_of}
+use Rattle.cluster_world.specs.WorldState.{WorldState, nodes_of}
 use Rattle.cluster_world.specs.Agreeing.{Agrees, IsRunOf}
 use Rattle.cluster_world.specs.Playing.{Keeps, Played, WaitsOn, events_of}
 use Rattle.cluster_world.specs.Seen.{names_of, named}
@@ -73,7 +73,7 @@ module _ (o : NamedOpening) (es : List NamedEvent) (w : NamedWorld) (made : w �
       (sym made) (quiet_names_answer o es) quiet
 
 -- a delivery that was played leaves less work
-pub delivery_lowers : (f t : ℕ) (old new : Held) (given now : List Answer) → IsWhole old → Played (Deliver f t) old new given now
+pub delivery_lowers : (f t : ℕ) (old new : WorldState) (given now : List Answer) → IsWhole old → Played (Deliver f t) old new given now
     → named_work (names_of new) (named new) < named_work (names_of old) (named old)
 delivery_lowers f t old new given now whole P = subst (λ (k : ℕ). k < named_work o (named old)) (sym made)
     (subst (λ (v : NamedWorld). named_refusal o v e ≡ None → named_work o (happens_named o v e) < named_work o v)
@@ -90,11 +90,11 @@ delivery_lowers f t old new given now whole P = subst (λ (k : ℕ). k < named_w
 
 module _ (next : NamedOpening → NamedWorld → Option NamedEvent) where
   -- nothing was played yet
-  pub plays_nothing : (h : Held) (given : List Answer) → PlaysOn next h h given given
+  pub plays_nothing : (h : WorldState) (given : List Answer) → PlaysOn next h h given given
   plays_nothing h given = record { events = []; are = tt; played = went_nowhere h given }
 
   -- nothing more was played
-  pub plays_still : (old mid new : Held) (given now : List Answer) → PlaysOn next old mid given now → named new ≡ named mid
+  pub plays_still : (old mid new : WorldState) (given now : List Answer) → PlaysOn next old mid given now → named new ≡ named mid
       → PlaysOn next old new given now
   plays_still old mid new given now P same = record {
     events = P.events;
@@ -103,13 +103,13 @@ module _ (next : NamedOpening → NamedWorld → Option NamedEvent) where
   }
 
   -- the next event was played
-  pub plays_one : (e : WorldEvent) (old new : Held) (given now : List Answer) → next (names_of old) (named old) ≡ Some (named_event e)
+  pub plays_one : (e : WorldEvent) (old new : WorldState) (given now : List Answer) → next (names_of old) (named old) ≡ Some (named_event e)
       → Played e old new given now → PlaysOn next old new given now
   plays_one e old new given now first P =
       record { events = e ∷ []; are = (first, tt); played = went_one e old new given now P }
 
   -- others were played behind those
-  pub plays_along : (old mid new : Held) (given before now : List Answer) → Keeps old mid → PlaysOn next old mid given before
+  pub plays_along : (old mid new : WorldState) (given before now : List Answer) → Keeps old mid → PlaysOn next old mid given before
       → PlaysOn next mid new before now → PlaysOn next old new given now
   plays_along old mid new given before now K P Q = record {
     events = P.events ++ Q.events;
@@ -124,7 +124,7 @@ module _ (next : NamedOpening → NamedWorld → Option NamedEvent) where
       o = names_of old
 
   -- and so all holds behind them
-  pub goes_on : (old new : Held) (now : List Answer) → Keeps old new → PlaysOn next old new [] now → GoesOn next old new now
+  pub goes_on : (old new : WorldState) (now : List Answer) → Keeps old new → PlaysOn next old new [] now → GoesOn next old new now
   goes_on old new now K P = record {
     events = P.events;
     are = P.are;
@@ -138,7 +138,7 @@ module _ (next : NamedOpening → NamedWorld → Option NamedEvent) where
       A = agrees P.events now old new K P.played.world P.played.answers
 
 -- what is kept twice is kept
-pub keeps_on : (old mid new : Held) → Keeps old mid → Keeps mid new → Keeps old new
+pub keeps_on : (old mid new : WorldState) → Keeps old mid → Keeps mid new → Keeps old new
 keeps_on old mid new K L = record { names = L.names ∙ K.names; cluster = L.cluster ∙ K.cluster }
 
 -- one of two facts, by a test
@@ -151,13 +151,13 @@ at_false P Q true e h = absurd (cc e)
 at_false P Q false e h = h
 
 -- the reader of the next letter has a core
-pub has_core : (h : Held) → IsWhole h → (t p : ℕ) → place t (nodes_of h) ≡ Some p → p < length h.cores
+pub has_core : (h : WorldState) → IsWhole h → (t p : ℕ) → place t (nodes_of h) ≡ Some p → p < length h.cores
 has_core h whole t p e =
     let at_place : (p < length (nodes_of h)) × (get_or (nodes_of h) p 0 ≡ t) = place-Some t (nodes_of h) p e in
     omega (arith, at_place.0, ap (λ (ns : List ℕ). length ns) whole.names, length-map h.cores core_name)
 
 -- and the protocol accepts the delivery
-pub has_next : (d : Delivery) (h : Held) → IsNextLetter d h → HasNext h
+pub has_next : (d : Delivery) (h : WorldState) → IsNextLetter d h → HasNext h
 has_next d h L = record {
   sender = name_of d.sender;
   receiver = name_of d.receiver;
@@ -166,7 +166,7 @@ has_next d h L = record {
 }
 
 -- it doesn't matter how a world is held
-pub next_still : (old new : Held) → Keeps old new → named new ≡ named old → HasNext old → HasNext new
+pub next_still : (old new : WorldState) → Keeps old new → named new ≡ named old → HasNext old → HasNext new
 next_still old new K same H = record {
   sender = H.sender;
   receiver = H.receiver;
@@ -176,13 +176,13 @@ next_still old new K same H = record {
 }
 
 -- one delivery more
-pub delivers_more : (old mid new : Held) (given before now : List Answer) → Keeps old mid → PlaysOn next_named old mid given before
+pub delivers_more : (old mid new : WorldState) (given before now : List Answer) → Keeps old mid → PlaysOn next_named old mid given before
     → DeliversInto mid new before now → PlaysOn next_named old new given now
 delivers_more old mid new given before now K P D = plays_along next_named old mid new given before now K P
     (plays_one next_named (Deliver D.sender D.receiver) mid new before now D.next D.played)
 
 -- all were made, and the world is settled
-pub settles : (old new : Held) (now : List Answer) → IsWhole old → Keeps old new → PlaysOn next_named old new [] now
+pub settles : (old new : WorldState) (now : List Answer) → IsWhole old → Keeps old new → PlaysOn next_named old new [] now
     → WaitsOn None new → Settles old new now
 settles old new now whole K P none = record {
   goes_on = G;

@@ -19,12 +19,12 @@ use Rattle.term.specs.NodeSets.{set_of, with_older, IsNodeSet}
 use Rattle.term.proofs.Older.{held}
 use Rattle.boss_order.proofs.Sets.{set_of-item}
 use Rattle.node_core.specs.declared.Letter.{Letter}
-use Rattle.node_core.specs.Held.{Held as Core, AreOf, fresh}
+use Rattle.node_core.specs.CoreState.{CoreState, AreOf, fresh}
 use Rattle.node_core.specs.Seen.{node_of}
 use Rattle.node_core.specs.Steps.{IsSaidBy}
 use Rattle.cluster_world.specs.Links.{AreFit}
 use Rattle.cluster_world.specs.Mail.{Mailed, links_of}
-use Rattle.cluster_world.specs.Held.{Held}
+use Rattle.cluster_world.specs.WorldState.{WorldState}
 use Rattle.cluster_world.specs.Whole.{IsWhole}
 use Rattle.world_history.specs.declared.entry.HistoryEntry.{HistoryEntry}
 use Rattle.world_history.specs.Histories.{entries_of}
@@ -157,18 +157,18 @@ module _ (nodes cluster : List ℕ) where
 
     node_is : (a : ℕ) → node_with whole_of a (or_else (core_of a (map (opening_core nodes cluster) nodes)) None)
         ≡ opening_node (in_cluster whole_of) a
-    node_is a = ap (λ (c : Option Core). node_with whole_of a (or_else c None)) (found a nodes) ∙ go (set_of nodes a)
+    node_is a = ap (λ (c : Option CoreState). node_with whole_of a (or_else c None)) (found a nodes) ∙ go (set_of nodes a)
       where
         go : (b : Bool) → node_with whole_of a (or_else (if b then Some (opening_core nodes cluster a) else None) None)
             ≡ opening_node (in_cluster whole_of) a
         go true = core_is a ∙ ap (λ (s : Nodes). opening_node s a) (sym cluster_is)
         go false = refl
 
-    module _ (cores past : List Core) (links : Mailed) (history : List HistoryEntry)
+    module _ (cores past : List CoreState) (links : Mailed) (history : List HistoryEntry)
         (made : cores ≡ map (opening_core nodes cluster) nodes) (nobody_yet : past ≡ [])
         (same : links.nodes ≡ nodes) (empty : links_of links ≡ no_letters) (none : history ≡ []) where
       -- what is held at the opening
-      abbrev opened : Held
+      abbrev opened : WorldState
       opened = record { cluster = cluster; cores = cores; past = past; links = links; history = history }
 
       pub opens_named : named opened ≡ opening_named (names_of opened)
@@ -177,8 +177,8 @@ module _ (nodes cluster : List ℕ) where
           ∙ ap (λ (ns : List ℕ). named_by ns cluster (λ x. core_at x opened) (links_of links) (entries_of history)) same
           ∙ ap (λ (w : Links Letter). named_by nodes cluster (λ x. core_at x opened) w (entries_of history)) empty
           ∙ ap (λ (es : List HistoryEntry). named_by nodes cluster (λ x. core_at x opened) no_letters (entries_of es)) none
-          ∙ ap (λ (ps : List Core). named_by nodes cluster (λ x. or_else (core_of x cores) (core_of x ps)) no_letters []) nobody_yet
-          ∙ ap (λ (cs : List Core). named_by nodes cluster (λ x. or_else (core_of x cs) None) no_letters []) made
+          ∙ ap (λ (ps : List CoreState). named_by nodes cluster (λ x. or_else (core_of x cores) (core_of x ps)) no_letters []) nobody_yet
+          ∙ ap (λ (cs : List CoreState). named_by nodes cluster (λ x. or_else (core_of x cs) None) no_letters []) made
           ∙ ap (λ (f : ℕ → Node). world_of f (over whole_of nodes no_letters) (present_in nodes)) (fun_ext node_is)
           ∙ ap (λ (l : Links AnyLetter). world_of (opening_node (in_cluster whole_of)) l (present_in nodes)) (over_none whole_of nodes)
           ∙ ap (λ (p : ℕ → ℕ). world_of (opening_node (in_cluster whole_of)) no_letters p) (fun_ext (present_one nodes first))
@@ -192,11 +192,11 @@ module _ (nodes cluster : List ℕ) where
         set = subst IsNodeSet (sym same) set;
         cluster = λ k d l. cluster_first (get_or cluster k d) (set_of-item cluster k d l);
         names = ap (map core_name) made ∙ names_are nodes ∙ sym same;
-        worlds = subst (λ (cs : List Core). All (λ c. with_older links.departed c.name ≡ false → c.world ≡ links.nodes) cs) (sym made)
-            (All-map (λ (c : Core). with_older links.departed c.name ≡ false → c.world ≡ links.nodes) (opening_core nodes cluster) nodes
+        worlds = subst (λ (cs : List CoreState). All (λ c. with_older links.departed c.name ≡ false → c.world ≡ links.nodes) cs) (sym made)
+            (All-map (λ (c : CoreState). with_older links.departed c.name ≡ false → c.world ≡ links.nodes) (opening_core nodes cluster) nodes
             (λ k d l stays. opens_world (get_or nodes k d) ∙ sym same));
-        older = subst (λ (cs : List Core). All (λ c. (with_older links.nodes c.name ≡ true) × (set_of links.nodes c.name ≡ false)) cs)
-            (sym nobody_yet) (All-nil (λ (c : Core). (with_older links.nodes c.name ≡ true) × (set_of links.nodes c.name ≡ false)));
+        older = subst (λ (cs : List CoreState). All (λ c. (with_older links.nodes c.name ≡ true) × (set_of links.nodes c.name ≡ false)) cs)
+            (sym nobody_yet) (All-nil (λ (c : CoreState). (with_older links.nodes c.name ≡ true) × (set_of links.nodes c.name ≡ false)));
         fit = subst (λ (w : Links Letter). AreFit links.nodes w) (sym empty)
             (record { known = λ f t e. refl; quiet = λ f t e. refl; said = λ f t. All-nil (IsSaidBy links.nodes t f) });
         events = [];

@@ -16,10 +16,10 @@ use Rattle.getting_through.specs.NodeNames.{opening_of as all_creations}
 use Rattle.getting_through.specs.NamedWorld.{NamedWorld, NamedEvent, after_events}
 use Rattle.term.specs.NodeSets.{IsNodeSet, set_of, with_older}
 use Rattle.term.proofs.NodePlaces.{place-Some}
-use Rattle.link.specs.Held.{place}
+use Rattle.link.specs.MeshState.{place}
 use Rattle.node_core.specs.declared.Event.{Event as NodeEvent}
 use Rattle.node_core.specs.declared.Letter.{Letter}
-use Rattle.node_core.specs.Held.{Held as Core, HaveLeft}
+use Rattle.node_core.specs.CoreState.{CoreState, HaveLeft}
 use Rattle.node_core.specs.Made.{Made}
 use Rattle.node_core.specs.Seen.{node_of, turn_by}
 use Rattle.node_core.specs.NodeEventsSeen.{entry_by}
@@ -27,7 +27,7 @@ use Rattle.node_core.specs.Steps.{Steps, IsAsBefore, IsHeardWithin, GoWithin}
 use Rattle.world_history.specs.declared.entry.HistoryEntry.{HistoryEntry}
 use Rattle.world_history.specs.Histories.{entries_of}
 use Rattle.cluster_world.specs.Cores.{core_of}
-use Rattle.cluster_world.specs.Held.{Held, nodes_of}
+use Rattle.cluster_world.specs.WorldState.{WorldState, nodes_of}
 use Rattle.cluster_world.specs.Links.{letters_to, AreFit}
 use Rattle.cluster_world.specs.Mail.{Mailed, links_of}
 use Rattle.cluster_world.specs.Openings.{named_opening, present_in}
@@ -37,11 +37,11 @@ use Rattle.cluster_world.proofs.Cores.{name_at, names-set, core_here, core_wrote
 use Rattle.cluster_world.proofs.Listed.{known_place}
 use Rattle.cluster_world.proofs.Posting.{none_to, fit_posted, over, over-posted, all_links-over, closed_is}
 
-abbrev pub core_name : Core → ℕ
+abbrev pub core_name : CoreState → ℕ
 core_name c = c.name
 
 -- what is held with another core at a place, and with these links and this history
-abbrev pub with_core : Held → ℕ → Core → Mailed → List HistoryEntry → Held
+abbrev pub with_core : WorldState → ℕ → CoreState → Mailed → List HistoryEntry → WorldState
 with_core h i new links history = record {
   cluster = h.cluster;
   cores = set h.cores i new;
@@ -51,7 +51,7 @@ with_core h i new links history = record {
 }
 
 -- the same with the cores as they are
-abbrev pub with_links : Held → Mailed → List HistoryEntry → Held
+abbrev pub with_links : WorldState → Mailed → List HistoryEntry → WorldState
 with_links h links history = record {
   cluster = h.cluster;
   cores = h.cores;
@@ -61,17 +61,17 @@ with_links h links history = record {
 }
 
 -- a world of all creations of these nodes' names, by the cores, the links and the entries that are held of it
-abbrev pub seen_by : List ℕ → List ℕ → (ℕ → Option Core) → Links Letter → List AnyEntry → World
+abbrev pub seen_by : List ℕ → List ℕ → (ℕ → Option CoreState) → Links Letter → List AnyEntry → World
 seen_by nodes cluster cores w es = record {
   node = λ x. node_with (all_creations (named_opening nodes cluster)) x (cores x);
   links = over (all_creations (named_opening nodes cluster)) nodes w;
   history = es;
 }
 
-abbrev pub named_by : List ℕ → List ℕ → (ℕ → Option Core) → Links Letter → List AnyEntry → NamedWorld
+abbrev pub named_by : List ℕ → List ℕ → (ℕ → Option CoreState) → Links Letter → List AnyEntry → NamedWorld
 named_by nodes cluster cores w es = record { world = seen_by nodes cluster cores w es; present = present_in nodes }
 
-pub named-is : (k : Held)
+pub named-is : (k : WorldState)
     → named k ≡ named_by (nodes_of k) k.cluster (λ x. core_at x k) (links_of k.links) (entries_of k.history)
 named-is k = ap (λ (l : Links AnyLetter). record (named k) { world = record (seen k) { links = l } })
     (all_links-over (opening_of k) k.links)
@@ -80,7 +80,7 @@ named-is k = ap (λ (l : Links AnyLetter). record (named k) { world = record (se
 All-map : {A : Type 0} {P Q : A → Type 0} (xs : List A) → ((x : A) → P x → Q x) → All P xs → All Q xs
 All-map xs f all = λ k d l. f _ (all k d l)
 
-module _ (h : Held) (whole : IsWhole h) where
+module _ (h : WorldState) (whole : IsWhole h) where
   -- with the same on the links and in the history the world is the same
   pub rested : (links : Mailed) (history : List HistoryEntry) → links.nodes ≡ nodes_of h → links_of links ≡ links_of h.links
       → history ≡ h.history → named (with_links h links history) ≡ named h
@@ -93,19 +93,19 @@ module _ (h : Held) (whole : IsWhole h) where
       ∙ sym (named-is h)
 
   -- what is whole with other cores, links and entries
-  pub whole_by : (cores : List Core) (links : Mailed) (history : List HistoryEntry) (es : List NamedEvent)
+  pub whole_by : (cores : List CoreState) (links : Mailed) (history : List HistoryEntry) (es : List NamedEvent)
       → links.nodes ≡ nodes_of h → map core_name cores ≡ nodes_of h
       → All (λ c. with_older links.departed c.name ≡ false → c.world ≡ nodes_of h) cores
       → AreFit (nodes_of h) (links_of links)
-      → (let k : Held = record { cluster = h.cluster; cores = cores; past = h.past; links = links; history = history } in
+      → (let k : WorldState = record { cluster = h.cluster; cores = cores; past = h.past; links = links; history = history } in
       named k ≡ after_events (names_of h) es → IsWhole k)
   whole_by cores links history es same names worlds fit reached = record {
     set = subst IsNodeSet (sym same) whole.set;
     cluster = whole.cluster;
     names = names ∙ sym same;
-    worlds = subst (λ (ns : List ℕ). All (λ (c : Core). with_older links.departed c.name ≡ false → c.world ≡ ns) cores)
+    worlds = subst (λ (ns : List ℕ). All (λ (c : CoreState). with_older links.departed c.name ≡ false → c.world ≡ ns) cores)
         (sym same) worlds;
-    older = subst (λ (ns : List ℕ). All (λ (c : Core). (with_older ns c.name ≡ true) × (set_of ns c.name ≡ false)) h.past)
+    older = subst (λ (ns : List ℕ). All (λ (c : CoreState). (with_older ns c.name ≡ true) × (set_of ns c.name ≡ false)) h.past)
         (sym same) whole.older;
     fit = subst (λ (ns : List ℕ). AreFit ns (links_of links)) (sym same) fit;
     events = es;
@@ -116,8 +116,8 @@ module _ (h : Held) (whole : IsWhole h) where
   pub worlds_still : (links : Mailed)
       → ((c : ℕ) → with_older links.departed c ≡ false → with_older h.links.departed c ≡ false)
       → All (λ c. with_older links.departed c.name ≡ false → c.world ≡ nodes_of h) h.cores
-  worlds_still links stay = All-map {A = Core} {P = λ (c : Core). with_older h.links.departed c.name ≡ false → c.world ≡ nodes_of h}
-      {Q = λ (c : Core). with_older links.departed c.name ≡ false → c.world ≡ nodes_of h} h.cores (λ c p e. p (stay c.name e)) whole.worlds
+  worlds_still links stay = All-map {A = CoreState} {P = λ (c : CoreState). with_older h.links.departed c.name ≡ false → c.world ≡ nodes_of h}
+      {Q = λ (c : CoreState). with_older links.departed c.name ≡ false → c.world ≡ nodes_of h} h.cores (λ c p e. p (stay c.name e)) whole.worlds
 
   -- who is closed out by the links
   pub left_by : (links : Mailed) (w : Links Letter) → links_of links ≡ w → with_older links.departed ≡ w.closed
@@ -130,7 +130,7 @@ module _ (h : Held) (whole : IsWhole h) where
       (subst (AreFit (nodes_of h)) (sym linked) whole.fit)
       (rested links history same linked entered ∙ whole.reached)
 
-module _ (h : Held) (whole : IsWhole h) (a i : ℕ) (core : Core) (there : place a (nodes_of h) ≡ Some i)
+module _ (h : WorldState) (whole : IsWhole h) (a i : ℕ) (core : CoreState) (there : place a (nodes_of h) ≡ Some i)
     (is : core ≡ get_or h.cores i core) where
   there_too : place a (map core_name h.cores) ≡ Some i
   there_too = ap (place a) whole.names ∙ there
@@ -149,19 +149,19 @@ module _ (h : Held) (whole : IsWhole h) (a i : ℕ) (core : Core) (there : place
   named_so = ap core_name is ∙ named_at
 
   pub node_is : (seen h).node a ≡ node_of core
-  node_is = ap (λ (c : Option Core). node_with (opening_of h) a (or_else c (core_of a h.past))) core_is
+  node_is = ap (λ (c : Option CoreState). node_with (opening_of h) a (or_else c (core_of a h.past))) core_is
 
   -- it knows the nodes at present, where it runs
   pub world_so : with_older h.links.departed a ≡ false → core.world ≡ nodes_of h
-  world_so up = ap (λ (c : Core). c.world) is ∙ whole.worlds i core within (ap (with_older h.links.departed) named_at ∙ up)
+  world_so up = ap (λ (c : CoreState). c.world) is ∙ whole.worlds i core within (ap (with_older h.links.departed) named_at ∙ up)
 
   -- another core of the node stands there for it
-  pub wrote : (new : Core) → new.name ≡ core.name → (x : ℕ)
+  pub wrote : (new : CoreState) → new.name ≡ core.name → (x : ℕ)
       → core_of x (set h.cores i new) ≡ (if x == a then Some new else core_of x h.cores)
   wrote new named = core_wrote core_name h.cores i new a within there_too (named ∙ named_so)
 
   -- with it, and with what is on the links and in the history now, the world is whole
-  pub whole_with : (new : Core) (links : Mailed) (history : List HistoryEntry) (es : List NamedEvent) → new.name ≡ core.name
+  pub whole_with : (new : CoreState) (links : Mailed) (history : List HistoryEntry) (es : List NamedEvent) → new.name ≡ core.name
       → new.world ≡ core.world → links.nodes ≡ nodes_of h
       → ((c : ℕ) → with_older links.departed c ≡ false → with_older h.links.departed c ≡ false)
       → AreFit (nodes_of h) (links_of links)
@@ -169,13 +169,13 @@ module _ (h : Held) (whole : IsWhole h) (a i : ℕ) (core : Core) (there : place
   whole_with new links history es named placed same stay fit reached = whole_by h whole (set h.cores i new) links history es same
       (names-set core_name h.cores i new within (named ∙ named_so
       ∙ sym (place-Some a (map core_name h.cores) i there_too).1) ∙ whole.names)
-      (All-set (λ (c : Core). with_older links.departed c.name ≡ false → c.world ≡ nodes_of h) h.cores i new
+      (All-set (λ (c : CoreState). with_older links.departed c.name ≡ false → c.world ≡ nodes_of h) h.cores i new
       (λ up. placed ∙ world_so (stay a (ap (with_older links.departed) (sym (named ∙ named_so)) ∙ up)))
       (worlds_still h whole links stay))
       fit reached
 
   -- the world with it, and with these links and entries
-  pub behind_is : (new : Core) (links : Mailed) (history : List HistoryEntry) (l : Links AnyLetter) (es : List AnyEntry)
+  pub behind_is : (new : CoreState) (links : Mailed) (history : List HistoryEntry) (l : Links AnyLetter) (es : List AnyEntry)
       → new.name ≡ core.name → links.nodes ≡ nodes_of h → over (opening_of h) (nodes_of h) (links_of links) ≡ l
       → entries_of history ≡ es
       → named (with_core h i new links history)
@@ -196,7 +196,7 @@ module _ (h : Held) (whole : IsWhole h) (a i : ℕ) (core : Core) (there : place
 
       nodes_are : (x : ℕ) → node_with (opening_of h) x (or_else (core_of x (set h.cores i new)) (core_of x h.past))
           ≡ at (seen h).node a (node_of new) x
-      nodes_are x = ap (λ (c : Option Core). node_with (opening_of h) x (or_else c (core_of x h.past))) (wrote new named x)
+      nodes_are x = ap (λ (c : Option CoreState). node_with (opening_of h) x (or_else c (core_of x h.past))) (wrote new named x)
           ∙ go (x == a)
         where
           go : (b : Bool) → node_with (opening_of h) x (or_else (if b then Some new else core_of x h.cores) (core_of x h.past))
@@ -205,7 +205,7 @@ module _ (h : Held) (whole : IsWhole h) (a i : ℕ) (core : Core) (there : place
           go false = refl
 
   -- where the protocol's node is as before, the protocol's world is, with the same on its links and in its history
-  pub as_before : (new : Core) (links : Mailed) (history : List HistoryEntry) → IsAsBefore core new
+  pub as_before : (new : CoreState) (links : Mailed) (history : List HistoryEntry) → IsAsBefore core new
       → links.nodes ≡ nodes_of h → links_of links ≡ links_of h.links → history ≡ h.history
       → named (with_core h i new links history) ≡ named h
   as_before new links history B same linked entered =
@@ -217,7 +217,7 @@ module _ (h : Held) (whole : IsWhole h) (a i : ℕ) (core : Core) (there : place
       nodes_are = by_test a (λ y t. (if t then node_of new else (seen h).node y) ≡ (seen h).node y)
           (B.node ∙ sym node_is) (λ y ne. refl)
 
-  pub whole_before : (new : Core) (links : Mailed) (history : List HistoryEntry) → new.world ≡ core.world → IsAsBefore core new
+  pub whole_before : (new : CoreState) (links : Mailed) (history : List HistoryEntry) → new.world ≡ core.world → IsAsBefore core new
       → links.nodes ≡ nodes_of h → links_of links ≡ links_of h.links → history ≡ h.history
       → IsWhole (with_core h i new links history)
   whole_before new links history placed B same linked entered = whole_with new links history whole.events B.name placed same
@@ -226,7 +226,7 @@ module _ (h : Held) (whole : IsWhole h) (a i : ℕ) (core : Core) (there : place
       (as_before new links history B same linked entered ∙ whole.reached)
 
   -- the step of a running node
-  module _ (left : HaveLeft (nodes_of h) h.links.departed) (up : with_older h.links.departed a ≡ false) (e : NodeEvent) (new : Core)
+  module _ (left : HaveLeft (nodes_of h) h.links.departed) (up : with_older h.links.departed a ≡ false) (e : NodeEvent) (new : CoreState)
       (made : Made) (S : Steps e core new made) (heard : IsHeardWithin (nodes_of h) a e) where
     -- its letters go to nodes that have started
     pub goes : GoWithin (nodes_of h) a made.letters

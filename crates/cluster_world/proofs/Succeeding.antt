@@ -17,10 +17,10 @@ use Rattle.term.proofs.NodeSets.{rises}
 use Rattle.term.proofs.Older.{reached, reaching, succeeded_is, succeeded_keeps}
 use Rattle.term.proofs.Succeeded.{next_of, keeps_order}
 use Rattle.boss_order.proofs.Sets.{set_of-item}
-use Rattle.link.specs.Held.{place}
+use Rattle.link.specs.MeshState.{place}
 use Rattle.node_core.specs.declared.Letter.{Letter}
 use Rattle.node_core.specs.declared.Letter.TheVariants.{SetLock, LockAnswer, GiveBack, GivenBack, ReleaseOf, Apply, Applied, JoinAsk, JoinRefused, Admit, Welcome, Down}
-use Rattle.node_core.specs.Held.{Held as Core, HaveLeft}
+use Rattle.node_core.specs.CoreState.{CoreState, HaveLeft}
 use Rattle.node_core.specs.Seen.{node_of}
 use Rattle.node_core.specs.Steps.{IsSaidBy}
 use Rattle.cluster_world.specs.Cores.{core_of}
@@ -84,18 +84,18 @@ rising_still a b xs next new up k l =
 
 -- A list of cores that take the next node of a name
 module _ (departed : List ℕ) (a b : ℕ) where
-  abbrev then_core : Core → Core
+  abbrev then_core : CoreState → CoreState
   then_core = replaced_in departed a b
 
   -- its node is the same, and is seen the same
-  pub name_kept : (c : Core) → (then_core c).name ≡ c.name
+  pub name_kept : (c : CoreState) → (then_core c).name ≡ c.name
   name_kept c = go (with_older departed c.name)
     where
       go : (t : Bool) → (if t then c else record c { world = succeeded a b c.world }).name ≡ c.name
       go true = refl
       go false = refl
 
-  pub node_kept : (c : Core) → node_of (then_core c) ≡ node_of c
+  pub node_kept : (c : CoreState) → node_of (then_core c) ≡ node_of c
   node_kept c = go (with_older departed c.name)
     where
       go : (t : Bool) → node_of (if t then c else record c { world = succeeded a b c.world }) ≡ node_of c
@@ -103,7 +103,7 @@ module _ (departed : List ℕ) (a b : ℕ) where
       go false = refl
 
   -- it knows the next node where it runs
-  pub world_kept : (nodes : List ℕ) (c : Core) → (with_older departed c.name ≡ false → c.world ≡ nodes)
+  pub world_kept : (nodes : List ℕ) (c : CoreState) → (with_older departed c.name ≡ false → c.world ≡ nodes)
       → with_older departed (then_core c).name ≡ false → (then_core c).world ≡ succeeded a b nodes
   world_kept nodes c knows up = go (with_older departed c.name) refl (ap (with_older departed) (sym (name_kept c)) ∙ up)
     where
@@ -112,12 +112,12 @@ module _ (departed : List ℕ) (a b : ℕ) where
       go true e f = absurd (cc (e, f))
       go false e f = ap (succeeded a b) (knows e)
 
-  pub names_kept : (cs : List Core) → map core_name (map then_core cs) ≡ map core_name cs
+  pub names_kept : (cs : List CoreState) → map core_name (map then_core cs) ≡ map core_name cs
   names_kept [] = refl
   names_kept (c ∷ cs) = ap (λ (n : ℕ). n ∷ map core_name (map then_core cs)) (name_kept c)
       ∙ ap (λ (ns : List ℕ). c.name ∷ ns) (names_kept cs)
 
-  pub found_kept : (y : ℕ) (cs : List Core) → core_of y (map then_core cs) ≡ option_map then_core (core_of y cs)
+  pub found_kept : (y : ℕ) (cs : List CoreState) → core_of y (map then_core cs) ≡ option_map then_core (core_of y cs)
   found_kept y [] = refl
   found_kept y (c ∷ cs) = ap (λ (n : ℕ). if n == y then Some (then_core c) else core_of y (map then_core cs)) (name_kept c)
       ∙ go (c.name == y) (found_kept y cs)
@@ -128,18 +128,18 @@ module _ (departed : List ℕ) (a b : ℕ) where
       go true e = refl
       go false e = e
 
-  pub seen_kept : (O : Opening) (y : ℕ) (c more : Option Core)
+  pub seen_kept : (O : Opening) (y : ℕ) (c more : Option CoreState)
       → node_with O y (or_else (option_map then_core c) more) ≡ node_with O y (or_else c more)
   seen_kept O y None more = refl
   seen_kept O y (Some c) more = node_kept c
 
 -- what was kept of replaced nodes, and one core more
-pub found_past : (y : ℕ) (ps : List Core) (g : Core) → (g.name ≡ y → ⊥) → core_of y (ps ++ g ∷ []) ≡ core_of y ps
-found_past y [] g ne = ap (λ (t : Bool). let r : Option Core = if t then Some g else None in r) (ne_eqb g.name y ne)
-found_past y (p ∷ ps) g ne = ap (λ (r : Option Core). if p.name == y then Some p else r) (found_past y ps g ne)
+pub found_past : (y : ℕ) (ps : List CoreState) (g : CoreState) → (g.name ≡ y → ⊥) → core_of y (ps ++ g ∷ []) ≡ core_of y ps
+found_past y [] g ne = ap (λ (t : Bool). let r : Option CoreState = if t then Some g else None in r) (ne_eqb g.name y ne)
+found_past y (p ∷ ps) g ne = ap (λ (r : Option CoreState). if p.name == y then Some p else r) (found_past y ps g ne)
 
-pub found_last : (y : ℕ) (ps : List Core) (g : Core) → core_of y ps ≡ None → g.name ≡ y → core_of y (ps ++ g ∷ []) ≡ Some g
-found_last y [] g none e = ap (λ (t : Bool). let r : Option Core = if t then Some g else None in r) (eq-eqb g.name y e)
+pub found_last : (y : ℕ) (ps : List CoreState) (g : CoreState) → core_of y ps ≡ None → g.name ≡ y → core_of y (ps ++ g ∷ []) ≡ Some g
+found_last y [] g none e = ap (λ (t : Bool). let r : Option CoreState = if t then Some g else None in r) (eq-eqb g.name y e)
 found_last y (p ∷ ps) g none e = go (p.name == y) none (λ n. found_last y ps g n e)
   where
     go : (t : Bool) → (if t then Some p else core_of y ps) ≡ None → (core_of y ps ≡ None → core_of y (ps ++ g ∷ []) ≡ Some g)
@@ -147,7 +147,7 @@ found_last y (p ∷ ps) g none e = go (p.name == y) none (λ n. found_last y ps 
     go true n more = absurd (cc n)
     go false n more = more n
 
-pub none_past : (nodes : List ℕ) (y : ℕ) (ps : List Core) → set_of nodes y ≡ true
+pub none_past : (nodes : List ℕ) (y : ℕ) (ps : List CoreState) → set_of nodes y ≡ true
     → All (λ c. (with_older nodes c.name ≡ true) × (set_of nodes c.name ≡ false)) ps → core_of y ps ≡ None
 none_past nodes y ps e all = not_among core_name y ps (λ k d l f. cc (e, (all k d l).1, ap (set_of nodes) f))
 

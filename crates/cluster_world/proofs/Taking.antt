@@ -22,19 +22,19 @@ use Rattle.getting_through.proofs.NumbersRead.{join_numbers_suffice}
 use Rattle.term.specs.Nodes.{name_of, text_in}
 use Rattle.term.specs.NodeSets.{set_of, with_older}
 use Rattle.term.proofs.Older.{held}
-use Rattle.link.specs.Held.{place}
+use Rattle.link.specs.MeshState.{place}
 use Rattle.node_core.specs.declared.Answer.{Answer}
 use Rattle.node_core.specs.declared.Event.TheVariants.{FromPeer}
 use Rattle.node_core.specs.declared.Letter.{Letter}
-use Rattle.node_core.specs.Held.{Held as Core, HaveLeft, bound_of}
+use Rattle.node_core.specs.CoreState.{CoreState, HaveLeft, bound_of}
 use Rattle.node_core.specs.Letters.{letter_of}
 use Rattle.node_core.specs.Made.{Made}
 use Rattle.node_core.specs.NodeEventsSeen.{entry_by}
 use Rattle.node_core.specs.Rare.{most_answers}
 use Rattle.node_core.specs.Seen.{node_of, turn_by}
 use Rattle.node_core.specs.Steps.{Steps, IsSaidBy, IsHeardWithin, refusal_of as node_refusal}
-use Rattle.world_events.specs.declared.events.Event.{Event}
-use Rattle.world_events.specs.declared.events.Event.TheVariants.{Call, Retry, Exit, Leave}
+use Rattle.world_events.specs.declared.events.LocalEvent.{LocalEvent}
+use Rattle.world_events.specs.declared.events.LocalEvent.TheVariants.{Call, Retry, Exit, Leave}
 use Rattle.world_events.specs.declared.events.WorldEvent.{WorldEvent}
 use Rattle.world_events.specs.declared.events.WorldEvent.TheVariants.{At, Deliver}
 use Rattle.world_events.specs.declared.refusal.Refusal.{Refusal}
@@ -42,7 +42,7 @@ use Rattle.world_events.specs.Events.{node_event, own_event_of, named_event, is_
 use Rattle.world_history.specs.declared.entry.HistoryEntry.{HistoryEntry}
 use Rattle.world_history.specs.Histories.{entries_of}
 use Rattle.cluster_world.specs.Cores.{core_of}
-use Rattle.cluster_world.specs.Held.{Held, nodes_of}
+use Rattle.cluster_world.specs.WorldState.{WorldState, nodes_of}
 use Rattle.cluster_world.specs.Histories.{number_of, number_at}
 use Rattle.cluster_world.specs.Links.{letters_to, AreFit, IsFirstSender}
 use Rattle.cluster_world.specs.Mail.{Mailed, links_of}
@@ -59,7 +59,7 @@ use Rattle.cluster_world.proofs.Posting.{down_of, over, over-taken, over-left, a
 use Rattle.cluster_world.proofs.Steps.{with_core, named_so, node_is, world_so, wrote, whole_with, left_by, behind_is, goes, posted_fit, stepped}
 
 -- the answers that are given are those that its turn has
-pub answers_are : {e : WorldEvent} {old new : Held} {given now : List Answer} → now ≡ given → Played e old new [] given
+pub answers_are : {e : WorldEvent} {old new : WorldState} {given now : List Answer} → now ≡ given → Played e old new [] given
     → Played e old new [] now
 answers_are {e} {old} {new} same played = subst (λ (given : List Answer). Played e old new [] given) (sym same) played
 
@@ -76,41 +76,41 @@ found_has P p (x ∷ xs) c all e = go (p x) refl e (found_has P p xs c (All-tail
     go false q f more = more f
 
 -- a world of these nodes' names
-names_with : (h : Held) (ns : List ℕ) → ns ≡ nodes_of h → named_opening ns h.cluster ≡ names_of h
+names_with : (h : WorldState) (ns : List ℕ) → ns ≡ nodes_of h → named_opening ns h.cluster ≡ names_of h
 names_with h ns same = ap (λ (xs : List ℕ). named_opening xs h.cluster) same
 
 -- what is admitted, and what is played, where contracts see what is held as old
-module _ (old h : Held) (same : h ≡ old) where
+module _ (old h : WorldState) (same : h ≡ old) where
   pub admitted : (p : ℕ) (e : WorldEvent) → IsAdmitted p e old → IsAdmitted p e h
   admitted p e A = subst (IsAdmitted p e) (sym same) A
 
-  pub played : (e : WorldEvent) (new : Held) (given : List Answer) → Played e h new [] given → Played e old new [] given
-  played e new given P = subst (λ (k : Held). Played e k new [] given) same P
+  pub played : (e : WorldEvent) (new : WorldState) (given : List Answer) → Played e h new [] given → Played e old new [] given
+  played e new given P = subst (λ (k : WorldState). Played e k new [] given) same P
 
   pub refused : (r : Refusal) (e : WorldEvent) → RefusedWith r e h → RefusedWith r e old
   refused r e R = subst (RefusedWith r e) same R
 
-  pub kept_by : (k : Held) (cores : List Core) (links : Mailed) (history : List HistoryEntry)
+  pub kept_by : (k : WorldState) (cores : List CoreState) (links : Mailed) (history : List HistoryEntry)
       → k ≡ record { cluster = h.cluster; cores = cores; past = h.past; links = links; history = history }
       → links.nodes ≡ nodes_of h → Keeps old k
   kept_by k cores links history is nodes = record {
     names = ap names_of is ∙ names_with h links.nodes nodes ∙ ap names_of same;
-    cluster = ap (λ (x : Held). x.cluster) is ∙ ap (λ (x : Held). x.cluster) same;
+    cluster = ap (λ (x : WorldState). x.cluster) is ∙ ap (λ (x : WorldState). x.cluster) same;
   }
 
 -- the core at a place, however it was reached
-module _ (old h : Held) (same : h ≡ old) (p : ℕ) (core : Core) (is : core ≡ get_or h.cores p core) (low : p < length h.cores) where
-  pub same_core : (other : Core) → other ≡ get_or h.cores p other → other ≡ core
+module _ (old h : WorldState) (same : h ≡ old) (p : ℕ) (core : CoreState) (is : core ≡ get_or h.cores p core) (low : p < length h.cores) where
+  pub same_core : (other : CoreState) → other ≡ get_or h.cores p other → other ≡ core
   same_core other here = here ∙ get_or_default h.cores p other core low ∙ sym is
 
   -- its answers are few
   pub few_answers : (given : List Answer) → length given ≤ most_answers core → AreFew p old given
-  few_answers given few d = subst (λ (k : Core). length given ≤ most_answers k)
-      (is ∙ get_or_default h.cores p core d low ∙ ap (λ (k : Held). get_or k.cores p d) same) few
+  few_answers given few d = subst (λ (k : CoreState). length given ≤ most_answers k)
+      (is ∙ get_or_default h.cores p core d low ∙ ap (λ (k : WorldState). get_or k.cores p d) same) few
 
 -- a node's own event
-module _ (h : Held) (whole : IsWhole h) (left : HaveLeft (nodes_of h) h.links.departed) (p a : ℕ) (e : Event)
-    (A : IsAdmitted p (At a e) h) (core : Core) (is : core ≡ get_or h.cores p core) where
+module _ (h : WorldState) (whole : IsWhole h) (left : HaveLeft (nodes_of h) h.links.departed) (p a : ℕ) (e : LocalEvent)
+    (A : IsAdmitted p (At a e) h) (core : CoreState) (is : core ≡ get_or h.cores p core) where
   abbrev event_at : Nodes → Turn
   event_at s = event (opening_of h).bound a s (own_event_of e) (begun ((seen h).node a))
 
@@ -150,12 +150,12 @@ module _ (h : Held) (whole : IsWhole h) (left : HaveLeft (nodes_of h) h.links.de
   heard_so = own_hears (nodes_of h) a e knows
 
   -- the letters go to nodes that have started
-  pub own_goes : (new : Core) (made : Made) → Steps (node_event e) core new made → (ns : List ℕ) → ns ≡ nodes_of h
+  pub own_goes : (new : CoreState) (made : Made) → Steps (node_event e) core new made → (ns : List ℕ) → ns ≡ nodes_of h
       → All (λ (s : ℕ × Letter). with_older ns s.0 ≡ true) made.letters
   own_goes new made S ns same = subst (λ (xs : List ℕ). All (λ (s : ℕ × Letter). with_older xs s.0 ≡ true) made.letters) (sym same)
       (λ k d l. (goes h whole a p core own_place is left up (node_event e) new made S heard_so k d l).0)
 
-  module _ (new : Core) (made : Made) (S : Steps (node_event e) core new made) (links : Mailed)
+  module _ (new : CoreState) (made : Made) (S : Steps (node_event e) core new made) (links : Mailed)
       (nodes : links.nodes ≡ nodes_of h) (post : links_of links ≡ posted a (λ t. letters_to t made.letters) (links_of h.links)) where
     fit : AreFit (nodes_of h) (links_of links)
     fit = subst (AreFit (nodes_of h)) (sym post)
@@ -215,7 +215,7 @@ module _ (h : Held) (whole : IsWhole h) (left : HaveLeft (nodes_of h) h.links.de
         leaves : event_at (set_of (nodes_of h)) ≡ leave_among h left a (set_of (nodes_of h))
         leaves = go e gone
           where
-            go : (e : Event) → is_leave e ≡ true
+            go : (e : LocalEvent) → is_leave e ≡ true
                 → event (opening_of h).bound a (set_of (nodes_of h)) (own_event_of e) (begun ((seen h).node a))
                 ≡ leave_among h left a (set_of (nodes_of h))
             go (Call c) q = cc
@@ -271,7 +271,7 @@ module _ (h : Held) (whole : IsWhole h) (left : HaveLeft (nodes_of h) h.links.de
             })) leave_is
             ∙ go e gone
           where
-            go : (e : Event) → is_leave e ≡ true → world_of (record {
+            go : (e : LocalEvent) → is_leave e ≡ true → world_of (record {
               node = at (seen h).node a all.node;
               links = closed_out a (posted a (λ t. sent_to t all.sends) (seen h).links);
               history = (seen h).history ++ all.entries;
@@ -307,7 +307,7 @@ module _ (h : Held) (whole : IsWhole h) (left : HaveLeft (nodes_of h) h.links.de
               (ap (λ (v : Turn). v.answers) leave_is ∙ go e gone);
         }
           where
-            go : (e : Event) → is_leave e ≡ true → (leave_among h left a (set_of (nodes_of h))).answers
+            go : (e : LocalEvent) → is_leave e ≡ true → (leave_among h left a (set_of (nodes_of h))).answers
                 ≡ (turn_of (opening_of h) (seen h) (AnyWorldEvent.At a (own_event_of e))).answers
             go (Call c) q = cc
             go Retry q = cc
@@ -315,9 +315,9 @@ module _ (h : Held) (whole : IsWhole h) (left : HaveLeft (nodes_of h) h.links.de
             go Leave q = refl
 
 -- the delivery of the oldest letter of the nodes of a name
-module _ (h : Held) (whole : IsWhole h) (left : HaveLeft (nodes_of h) h.links.departed) (p f t : ℕ)
+module _ (h : WorldState) (whole : IsWhole h) (left : HaveLeft (nodes_of h) h.links.departed) (p f t : ℕ)
     (there : place t (nodes_of h) ≡ Some p) (first : IsFirstSender (name_of f) t (Some f) (links_of h.links))
-    (A : IsAdmitted p (Deliver (name_of f) (name_of t)) h) (core : Core) (is : core ≡ get_or h.cores p core) where
+    (A : IsAdmitted p (Deliver (name_of f) (name_of t)) h) (core : CoreState) (is : core ≡ get_or h.cores p core) where
   abbrev E : AnyWorldEvent
   E = AnyWorldEvent.Deliver f t
 
@@ -374,12 +374,12 @@ module _ (h : Held) (whole : IsWhole h) (left : HaveLeft (nodes_of h) h.links.de
     hears = (sends, said)
 
     -- the letters go to nodes that have started
-    pub read_goes : (new : Core) (made : Made) → Steps (FromPeer f letter) core new made → (ns : List ℕ) → ns ≡ nodes_of h
+    pub read_goes : (new : CoreState) (made : Made) → Steps (FromPeer f letter) core new made → (ns : List ℕ) → ns ≡ nodes_of h
         → All (λ (s : ℕ × Letter). with_older ns s.0 ≡ true) made.letters
     read_goes new made S ns same = subst (λ (xs : List ℕ). All (λ (s : ℕ × Letter). with_older xs s.0 ≡ true) made.letters) (sym same)
         (λ k d l. (goes h whole t p core there is left runs (FromPeer f letter) new made S hears k d l).0)
 
-    module _ (new : Core) (made : Made) (S : Steps (FromPeer f letter) core new made) (links : Mailed) (nodes : links.nodes ≡ nodes_of h)
+    module _ (new : CoreState) (made : Made) (S : Steps (FromPeer f letter) core new made) (links : Mailed) (nodes : links.nodes ≡ nodes_of h)
         (post : links_of links ≡ posted t (λ x. letters_to x made.letters) (taken f t (links_of h.links))) where
       read_fit : AreFit (nodes_of h) (links_of links)
       read_fit = subst (AreFit (nodes_of h)) (sym post)
@@ -396,13 +396,13 @@ module _ (h : Held) (whole : IsWhole h) (left : HaveLeft (nodes_of h) h.links.de
         read_turn = turn_by join_at new made
 
         -- a core's join has the number that the world sees, where its node wasn't replaced
-        number_seen : (j : ℕ) → (IsReplaced (names_of h) (named h) j → ⊥) → (c d : Option Core) → core_of j h.past ≡ d
+        number_seen : (j : ℕ) → (IsReplaced (names_of h) (named h) j → ⊥) → (c d : Option CoreState) → core_of j h.past ≡ d
             → number_of c ≡ number_in (node_with (opening_of h) j (or_else c d)).current
         number_seen j stands (Some c) d q = refl
         number_seen j stands None None q = refl
         number_seen j stands None (Some c) q =
             let found : ((with_older (nodes_of h) c.name ≡ true) × (set_of (nodes_of h) c.name ≡ false)) × ((c.name == j) ≡ true) =
-            found_has (λ (c : Core). (with_older (nodes_of h) c.name ≡ true) × (set_of (nodes_of h) c.name ≡ false)) (λ c. c.name == j)
+            found_has (λ (c : CoreState). (with_older (nodes_of h) c.name ≡ true) × (set_of (nodes_of h) c.name ≡ false)) (λ c. c.name == j)
             h.past c whole.older q in
             let same : c.name ≡ j = eqb-true c.name j found.1 in
             absurd (stands (subst (IsReplaced (names_of h) (named h)) same

@@ -9,11 +9,11 @@ use Rattle.transaction.specs.declared.nodes.Nodes.{Nodes}
 use Rattle.transaction.specs.declared.nodes.Nodes.TheVariants.{All}
 use Rattle.node_core.specs.declared.Call.{Call}
 use Rattle.node_core.specs.declared.Call.TheVariants.{DelLock}
-use Rattle.world_events.specs.declared.events.Event.TheVariants.{Call as Calls}
+use Rattle.world_events.specs.declared.events.LocalEvent.TheVariants.{Call as Calls}
 use Rattle.world_events.specs.declared.events.WorldEvent.TheVariants.{At}
 use Rattle.world_events.specs.declared.refusal.Refusal.{Refusal}
 use Rattle.world_events.specs.Events.{named_event}
-use Rattle.cluster_world.specs.Held.{Held}
+use Rattle.cluster_world.specs.WorldState.{WorldState}
 use Rattle.cluster_world.specs.Playing.{RefusedWith}
 use Rattle.cluster_world.specs.Seats.{IsWhyRefused, Unanswered, names_nodes, unmade}
 use Rattle.cluster_world.specs.Seen.{names_of, named}
@@ -22,13 +22,13 @@ use Rattle.cluster_world.specs.Admissions.{event_by, IsFound}
 use Rattle.cluster_world.proofs.Admissions.{found_admitted}
 
 -- its own cause comes first
-pub unmade_call : (a : ℕ) (c : Call) (old : Held) (why : Option Refusal) → IsWhyRefused why (At a (Calls c)) old
+pub unmade_call : (a : ℕ) (c : Call) (old : WorldState) (why : Option Refusal) → IsWhyRefused why (At a (Calls c)) old
     → names_nodes c ≡ true → Unanswered a c old old (unmade why)
 unmade_call a c old None free named = (refl, named, free)
 unmade_call a c old (Some r) refused named = (refused, λ kept. refl, λ out. inl refl)
 
 -- a deletion is refused so whichever nodes it asks
-module _ (b : ℕ) (p q : Process) (i j : LockId) (old : Held) (node : b ≡ p.node) (holder : q ≡ p) (id : j ≡ i) (ns : Nodes) where
+module _ (b : ℕ) (p q : Process) (i j : LockId) (old : WorldState) (node : b ≡ p.node) (holder : q ≡ p) (id : j ≡ i) (ns : Nodes) where
   same : named_refusal (names_of old) (named old) (named_event (At b (Calls (DelLock q j All))))
       ≡ named_refusal (names_of old) (named old) (named_event (At p.node (Calls (DelLock p i ns))))
   same = ap (λ (n : ℕ). named_refusal (names_of old) (named old) (named_event (At n (Calls (DelLock q j All))))) node

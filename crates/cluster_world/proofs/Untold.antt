@@ -18,11 +18,11 @@ use Rattle.term.proofs.Numbers.{name_of-first}
 use Rattle.term.proofs.NodePlaces.{place-Some}
 use Rattle.term.proofs.NodeSets.{rises}
 use Rattle.term.proofs.Older.{held}
-use Rattle.link.specs.Held.{place}
+use Rattle.link.specs.MeshState.{place}
 use Rattle.link.proofs.Places.{place-get_or}
-use Rattle.node_core.specs.Held.{Held as Core, HaveLeft}
+use Rattle.node_core.specs.CoreState.{CoreState, HaveLeft}
 use Rattle.node_core.specs.Seen.{node_of}
-use Rattle.cluster_world.specs.Held.{Held, nodes_of}
+use Rattle.cluster_world.specs.WorldState.{WorldState, nodes_of}
 use Rattle.cluster_world.specs.Mail.{links_of}
 use Rattle.cluster_world.specs.Openings.{present_in}
 use Rattle.cluster_world.specs.Restarting.{IsFirstUntold}
@@ -39,17 +39,17 @@ pub text_of_name : (a x : ℕ) → name_of a ≡ x → text_in x ≡ text_in a
 text_of_name a x e = let n : name_of a ≡ x = e in omega (arith, n)
 
 -- what stands at a place
-item_at : (cs : List Core) (k : ℕ) → k < length cs → (c : Core) × (get_or cs k c ≡ c)
+item_at : (cs : List CoreState) (k : ℕ) → k < length cs → (c : CoreState) × (get_or cs k c ≡ c)
 item_at [] k l = absurd (omega arith)
 item_at (c ∷ cs) zero l = (c, refl)
-item_at (c ∷ cs) (suc k) l = let r : (d : Core) × (get_or cs k d ≡ d) = item_at cs k (omega arith) in (r.0, r.1)
+item_at (c ∷ cs) (suc k) l = let r : (d : CoreState) × (get_or cs k d ≡ d) = item_at cs k (omega arith) in (r.0, r.1)
 
 -- what is not false is true
 was_told : (b : Bool) → (b ≡ false → ⊥) → b ≡ true
 was_told true f = refl
 was_told false f = absurd (f refl)
 
-module _ (h : Held) (whole : IsWhole h) where
+module _ (h : WorldState) (whole : IsWhole h) where
   -- what the laws of named nodes say of it
   pub stands : NodesStand (names_of h) (named h)
   stands = subst (NodesStand (names_of h)) (sym whole.reached) (nodes_always_stand (names_of h) whole.events)
@@ -59,37 +59,37 @@ module _ (h : Held) (whole : IsWhole h) where
       (restarts_say_why (names_of h) whole.events x)
 
   -- the place of a core is that of its node
-  pub core_place : (k : ℕ) (d : Core) → k < length h.cores → place (get_or h.cores k d).name (nodes_of h) ≡ Some k
+  pub core_place : (k : ℕ) (d : CoreState) → k < length h.cores → place (get_or h.cores k d).name (nodes_of h) ≡ Some k
   core_place k d l = ap (λ (a : ℕ). place a (nodes_of h))
       (name_at core_name h.cores k d l ∙ ap (λ (ns : List ℕ). get_or ns k 0) whole.names)
       ∙ place-get_or (nodes_of h) k whole.set.rising
       (omega (arith, l, ap (λ (ns : List ℕ). length ns) whole.names, length-map h.cores core_name))
 
-  pub core_known : (k : ℕ) (d : Core) → k < length h.cores → set_of (nodes_of h) (get_or h.cores k d).name ≡ true
+  pub core_known : (k : ℕ) (d : CoreState) → k < length h.cores → set_of (nodes_of h) (get_or h.cores k d).name ≡ true
   core_known k d l = known_place (nodes_of h) (get_or h.cores k d).name k (core_place k d l)
 
   -- the core at a place, as the protocol's node
-  pub core_seen : (k : ℕ) (d : Core) → k < length h.cores → (seen h).node (get_or h.cores k d).name ≡ node_of (get_or h.cores k d)
+  pub core_seen : (k : ℕ) (d : CoreState) → k < length h.cores → (seen h).node (get_or h.cores k d).name ≡ node_of (get_or h.cores k d)
   core_seen k d l = node_is h whole (get_or h.cores k d).name k (get_or h.cores k d) (core_place k d l)
       (get_or_default h.cores k d (get_or h.cores k d) l)
 
-  pub contained_seen : (c : Core) → Contains h.cores c → (seen h).node c.name ≡ node_of c
-  contained_seen c i = subst (λ (d : Core). (seen h).node d.name ≡ node_of d) i.2 (core_seen i.0 c i.1)
+  pub contained_seen : (c : CoreState) → Contains h.cores c → (seen h).node c.name ≡ node_of c
+  contained_seen c i = subst (λ (d : CoreState). (seen h).node d.name ≡ node_of d) i.2 (core_seen i.0 c i.1)
 
-  pub contained_known : (c : Core) → Contains h.cores c → set_of (nodes_of h) c.name ≡ true
-  contained_known c i = subst (λ (d : Core). set_of (nodes_of h) d.name ≡ true) i.2 (core_known i.0 c i.1)
+  pub contained_known : (c : CoreState) → Contains h.cores c → set_of (nodes_of h) c.name ≡ true
+  contained_known c i = subst (λ (d : CoreState). set_of (nodes_of h) d.name ≡ true) i.2 (core_known i.0 c i.1)
 
   -- each node at present has a core
-  pub core_there : (a : ℕ) → set_of (nodes_of h) a ≡ true → (c : Core) × Contains h.cores c × (c.name ≡ a)
+  pub core_there : (a : ℕ) → set_of (nodes_of h) a ≡ true → (c : CoreState) × Contains h.cores c × (c.name ≡ a)
   core_there a e = go (place a (nodes_of h)) refl
     where
-      go : (p : Option ℕ) → place a (nodes_of h) ≡ p → (c : Core) × Contains h.cores c × (c.name ≡ a)
+      go : (p : Option ℕ) → place a (nodes_of h) ≡ p → (c : CoreState) × Contains h.cores c × (c.name ≡ a)
       go None f = absurd (cc (e, no_place (nodes_of h) a f))
       go (Some k) f =
           let at_place : (k < length (nodes_of h)) × (get_or (nodes_of h) k 0 ≡ a) = place-Some a (nodes_of h) k f in
           let l : k < length h.cores =
           omega (arith, at_place.0, ap (λ (ns : List ℕ). length ns) whole.names, length-map h.cores core_name) in
-          let d : (c : Core) × (get_or h.cores k c ≡ c) = item_at h.cores k l in (
+          let d : (c : CoreState) × (get_or h.cores k c ≡ c) = item_at h.cores k l in (
             d.0,
             subst (Contains h.cores) d.1 (Contains-get_or h.cores k d.0 l),
             ap core_name (sym d.1) ∙ name_at core_name h.cores k d.0 l ∙ ap (λ (ns : List ℕ). get_or ns k 0) whole.names ∙ at_place.1,
@@ -97,7 +97,7 @@ module _ (h : Held) (whole : IsWhole h) where
 
   module _ (went : HaveLeft (nodes_of h) h.links.departed) where
     -- a running core is that of a node that is up
-    pub core_up : (c : Core) → Contains h.cores c → with_older h.links.departed c.name ≡ false → IsUp (names_of h) (named h) c.name
+    pub core_up : (c : CoreState) → Contains h.cores c → with_older h.links.departed c.name ≡ false → IsUp (names_of h) (named h) c.name
     core_up c i stays = up_from h went.one c.name (contained_known c i) stays
 
     module _ (a x : ℕ) (known : set_of (nodes_of h) a ≡ true) (same : name_of a ≡ x) where
@@ -122,7 +122,7 @@ module _ (h : Held) (whole : IsWhole h) where
       gone_is gone = record { known = is_known; gone = ap (with_older h.links.departed) present_here ∙ gone }
 
       -- what a running core was told of it
-      pub told_is : (c : Core) → Contains h.cores c
+      pub told_is : (c : CoreState) → Contains h.cores c
           → ((named h).world.node c.name).replica.told (present_node (names_of h) (named h) (text_in x)) ≡ with_older c.told a
       told_is c i = ap (λ (v : Node). v.replica.told (present_node (names_of h) (named h) (text_in x))) (contained_seen c i)
           ∙ ap (with_older c.told) present_here
@@ -143,7 +143,7 @@ module _ (h : Held) (whole : IsWhole h) where
           told_below : (c : ℕ) → IsUp (names_of h) (named h) c → c < n
               → ((named h).world.node c).replica.told (present_node (names_of h) (named h) (text_in x)) ≡ true
           told_below c up l =
-              let there : (d : Core) × Contains h.cores d × (d.name ≡ c) = core_there c (up_to h went.one went c up).0 in
+              let there : (d : CoreState) × Contains h.cores d × (d.name ≡ c) = core_there c (up_to h went.one went c up).0 in
               subst (λ (m : ℕ). ((named h).world.node m).replica.told (present_node (names_of h) (named h) (text_in x)) ≡ true)
               there.2 (told_is there.0 there.1
               ∙ was_told (with_older there.0.told a) (λ e. least.4 there.0 there.1 (let k : there.0.name ≡ c = there.2 in omega (arith, k, l))
@@ -151,7 +151,7 @@ module _ (h : Held) (whole : IsWhole h) where
 
       all_told : IsFirstUntold a h None → AllAreTold (names_of h) (named h) (text_in x)
       all_told none c up =
-          let there : (d : Core) × Contains h.cores d × (d.name ≡ c) = core_there c (up_to h went.one went c up).0 in
+          let there : (d : CoreState) × Contains h.cores d × (d.name ≡ c) = core_there c (up_to h went.one went c up).0 in
           subst (λ (m : ℕ). ((named h).world.node m).replica.told (present_node (names_of h) (named h) (text_in x)) ≡ true)
           there.2 (told_is there.0 there.1 ∙ was_told (with_older there.0.told a)
           (λ e. none there.0 there.1 (ap (with_older h.links.departed) there.2 ∙ up.stays, e)))
@@ -171,7 +171,7 @@ module _ (h : Held) (whole : IsWhole h) where
           lt : (named h).present (text_in x) ≡ creation_of a → (named h).present (text_in x) < 4294967295
           lt e = let c : creation_of a < 4294967295 = less in omega (arith, e, c)
 
-module _ (h : Held) (whole : IsWhole h) where
+module _ (h : WorldState) (whole : IsWhole h) where
   -- the world has no such name
   pub no_such_name : (x : ℕ) → IsFirst x → names_in (nodes_of h) x ≡ false
       → named_refusal (names_of h) (named h) (Restart (text_in x)) ≡ Some (Plain NoSuchNode)
@@ -179,7 +179,7 @@ module _ (h : Held) (whole : IsWhole h) where
       (known_is (nodes_of h) h.cluster x ∙ ap (names_in (nodes_of h)) (name_of-first x first) ∙ none)
 
   module _ (went : HaveLeft (nodes_of h) h.links.departed) (a x p n : ℕ) (there : place a (nodes_of h) ≡ Some p)
-      (same : name_of a ≡ x) (core : Core) (is : core ≡ get_or h.cores p core) (named_n : n ≡ core.name) where
+      (same : name_of a ≡ x) (core : CoreState) (is : core ≡ get_or h.cores p core) (named_n : n ≡ core.name) where
     -- the core at the place is that of the name's node
     pub is_node : n ≡ a
     is_node = named_n ∙ named_so h whole a p core there is
@@ -211,11 +211,11 @@ module _ (h : Held) (whole : IsWhole h) where
         (subst (λ (k : ℕ). creation_of k < last_creation) is_node less)
 
 -- The first of the running cores that wasn't told, searched for
-abbrev pub AllToldBefore : ℕ → List ℕ → ℕ → List Core → Type 0
-AllToldBefore gone departed i cs = (k : ℕ) (d : Core) → k < i → with_older departed (get_or cs k d).name ≡ false
+abbrev pub AllToldBefore : ℕ → List ℕ → ℕ → List CoreState → Type 0
+AllToldBefore gone departed i cs = (k : ℕ) (d : CoreState) → k < i → with_older departed (get_or cs k d).name ≡ false
     → with_older (get_or cs k d).told gone ≡ false → ⊥
 
-pub told_more : (gone : ℕ) (departed : List ℕ) (i : ℕ) (cs : List Core) (c : Core) → i < length cs → c ≡ get_or cs i c
+pub told_more : (gone : ℕ) (departed : List ℕ) (i : ℕ) (cs : List CoreState) (c : CoreState) → i < length cs → c ≡ get_or cs i c
     → AllToldBefore gone departed i cs → (with_older departed c.name ≡ false → with_older c.told gone ≡ false → ⊥)
     → AllToldBefore gone departed (i + 1) cs
 told_more gone departed i cs c l is before here k d m up untold = elim (cases_lt k i) [
@@ -223,16 +223,16 @@ told_more gone departed i cs c l is before here k d m up untold = elim (cases_lt
   | inr more ↦
       let at_i : k ≡ i = omega (arith, m, more) in
       let same : get_or cs k d ≡ c = ap (λ (j : ℕ). get_or cs j d) at_i ∙ get_or_default cs i d c l ∙ sym is in
-      here (ap (λ (e : Core). with_older departed e.name) (sym same) ∙ up) (ap (λ (e : Core). with_older e.told gone) (sym same) ∙ untold)
+      here (ap (λ (e : CoreState). with_older departed e.name) (sym same) ∙ up) (ap (λ (e : CoreState). with_older e.told gone) (sym same) ∙ untold)
 ]
 
-module _ (h : Held) (whole : IsWhole h) (gone : ℕ) where
+module _ (h : WorldState) (whole : IsWhole h) (gone : ℕ) where
   pub all_were_told : (i : ℕ) → length h.cores ≤ i → AllToldBefore gone h.links.departed i h.cores → IsFirstUntold gone h None
   all_were_told i le before = λ c at_c out. before at_c.0 c (omega (arith, le, at_c.1))
-      (ap (λ (e : Core). with_older h.links.departed e.name) at_c.2 ∙ out.0)
-      (ap (λ (e : Core). with_older e.told gone) at_c.2 ∙ out.1)
+      (ap (λ (e : CoreState). with_older h.links.departed e.name) at_c.2 ∙ out.0)
+      (ap (λ (e : CoreState). with_older e.told gone) at_c.2 ∙ out.1)
 
-  pub first_is : (i : ℕ) (c : Core) (n : ℕ) → i < length h.cores → c ≡ get_or h.cores i c → n ≡ c.name
+  pub first_is : (i : ℕ) (c : CoreState) (n : ℕ) → i < length h.cores → c ≡ get_or h.cores i c → n ≡ c.name
       → with_older h.links.departed c.name ≡ false → with_older c.told gone ≡ false
       → AllToldBefore gone h.links.departed i h.cores → IsFirstUntold gone h (Some n)
   first_is i c n l is named_n up untold before = (
@@ -241,19 +241,19 @@ module _ (h : Held) (whole : IsWhole h) (gone : ℕ) where
     sym named_n,
     (up, untold),
     λ d at_d less out. elim (cases_lt at_d.0 i) [
-      | inl front ↦ before at_d.0 d front (ap (λ (e : Core). with_older h.links.departed e.name) at_d.2 ∙ out.0)
-          (ap (λ (e : Core). with_older e.told gone) at_d.2 ∙ out.1)
+      | inl front ↦ before at_d.0 d front (ap (λ (e : CoreState). with_older h.links.departed e.name) at_d.2 ∙ out.0)
+          (ap (λ (e : CoreState). with_older e.told gone) at_d.2 ∙ out.1)
       | inr behind ↦ above at_d.0 d at_d.1 at_d.2 behind less
     ],
   )
     where
-      name_of_place : (k : ℕ) (d : Core) → k < length h.cores → get_or (nodes_of h) k 0 ≡ (get_or h.cores k d).name
+      name_of_place : (k : ℕ) (d : CoreState) → k < length h.cores → get_or (nodes_of h) k 0 ≡ (get_or h.cores k d).name
       name_of_place k d l = ap (λ (ns : List ℕ). get_or ns k 0) (sym whole.names) ∙ sym (name_at core_name h.cores k d l)
 
       long : length h.cores ≡ length (nodes_of h)
       long = sym (length-map h.cores core_name) ∙ ap (λ (ns : List ℕ). length ns) whole.names
 
-      above : (k : ℕ) (d : Core) → k < length h.cores → get_or h.cores k d ≡ d → i ≤ k → d.name < n → ⊥
+      above : (k : ℕ) (d : CoreState) → k < length h.cores → get_or h.cores k d ≡ d → i ≤ k → d.name < n → ⊥
       above k d m e le less = elim (cases_lt i k) [
         | inl later ↦
             let up_there : get_or (nodes_of h) i 0 < get_or (nodes_of h) k 0 = rises (nodes_of h) i k whole.set.rising later (omega (arith, m, long)) in

@@ -23,12 +23,12 @@ use Rattle.term.specs.Nodes.{text_in, name_of}
 use Rattle.term.specs.NodeSets.{set_of, with_older, names_in}
 use Rattle.term.proofs.Numbers.{text_in-first_node}
 use Rattle.term.proofs.Older.{held}
-use Rattle.link.specs.Held.{place}
+use Rattle.link.specs.MeshState.{place}
 use Rattle.node_core.specs.declared.Letter.{Letter}
-use Rattle.node_core.specs.Held.{HaveLeft}
+use Rattle.node_core.specs.CoreState.{HaveLeft}
 use Rattle.world_events.specs.declared.events.WorldEvent.TheVariants.{Deliver as Delivers}
 use Rattle.world_events.specs.Events.{named_event}
-use Rattle.cluster_world.specs.Held.{Held, nodes_of}
+use Rattle.cluster_world.specs.WorldState.{WorldState, nodes_of}
 use Rattle.cluster_world.specs.Whole.{IsWhole}
 use Rattle.cluster_world.specs.declared.admission.Delivery.{Delivery}
 use Rattle.cluster_world.specs.Links.{IsBetween, WaitsFirst}
@@ -120,7 +120,7 @@ module _ (o : NamedOpening) (w : NamedWorld) where
       (λ b j less. row_found x b false (before x b sender j (inr (refl, less))))
       (row_found x y true free))
 
-module _ (h : Held) (whole : IsWhole h) (left : HaveLeft (nodes_of h) h.links.departed) where
+module _ (h : WorldState) (whole : IsWhole h) (left : HaveLeft (nodes_of h) h.links.departed) where
   abbrev o : NamedOpening
   o = names_of h
 

@@ -10,7 +10,7 @@ use Rattle.node_core.specs.declared.Answer.{Answer}
 use Rattle.node_core.specs.NodeEventsSeen.{answer_of}
 use Rattle.world_events.specs.declared.events.WorldEvent.{WorldEvent}
 use Rattle.world_events.specs.Openings.{opening_with}
-use Rattle.cluster_world.specs.Held.{Held}
+use Rattle.cluster_world.specs.WorldState.{WorldState}
 use Rattle.cluster_world.specs.Seen.{names_of, opening_of, seen, named}
 use Rattle.cluster_world.specs.Playing.{events_of}
 
@@ -19,11 +19,11 @@ abbrev pub HeadlineAfter : Opening → List AnyWorldEvent → World → Type 0
 HeadlineAfter o es w = Headline o (course o (opening_world o) es) (shown o w)
 
 -- these events, from its opening on, made the world what it is
-abbrev pub IsRunOf : List NamedEvent → Held → Type 0
+abbrev pub IsRunOf : List NamedEvent → WorldState → Type 0
 IsRunOf es h = named h ≡ after_events (names_of h) es
 
 -- these events made the world what it is, and the headline holds behind them: behind what they are in the world of all creations
-pub record AgreesAfter (es : List NamedEvent) (h : Held) : Type 0 where
+pub record AgreesAfter (es : List NamedEvent) (h : WorldState) : Type 0 where
   pub is_run : IsRunOf es h
   pub headline : HeadlineAfter (opening_of h) (as_events (names_of h) es) (seen h)
 
@@ -34,7 +34,7 @@ Adds o before es given =
 
 -- Whatever made the old world what it was, that and then these events made the new one, the headline holds behind them
 -- all, and these are the answers that they add
-abbrev pub Agrees : List WorldEvent → List Answer → Held → Held → Type 0
+abbrev pub Agrees : List WorldEvent → List Answer → WorldState → WorldState → Type 0
 Agrees es given old new = (before : List NamedEvent) → IsRunOf before old
     → AgreesAfter (before ++ events_of es) new × Adds (names_of old) before (events_of es) given
 

@@ -1,7 +1,7 @@
 -- The cores of the nodes.
 use Rattle.std.specs.Prelude.{ℕ, ◌==◌, Option, List, find}
-use Rattle.node_core.specs.Held.{Held as Core}
+use Rattle.node_core.specs.CoreState.{CoreState}
 
 -- the core of a node, if there is one
-abbrev pub core_of : ℕ → List Core → Option Core
+abbrev pub core_of : ℕ → List CoreState → Option CoreState
 core_of a cs = find (λ c. c.name == a) cs

@@ -8,12 +8,12 @@ use Rattle.getting_through.specs.NamedScript.{next_named}
 use Rattle.getting_through.specs.NamedFinishing.{first_refused}
 use Rattle.term.specs.NodeSets.{with_older}
 use Rattle.node_core.specs.declared.Answer.{Answer}
-use Rattle.node_core.specs.Held.{Held as Core}
+use Rattle.node_core.specs.CoreState.{CoreState}
 use Rattle.node_core.specs.Joining.{join_number_of}
 use Rattle.node_core.specs.Seen.{node_of}
-use Rattle.world_events.specs.declared.events.Event.TheVariants.{Retry}
+use Rattle.world_events.specs.declared.events.LocalEvent.TheVariants.{Retry}
 use Rattle.world_events.specs.declared.events.WorldEvent.TheVariants.{At}
-use Rattle.cluster_world.specs.Held.{Held}
+use Rattle.cluster_world.specs.WorldState.{WorldState}
 use Rattle.cluster_world.specs.Agreeing.{IsRunOf}
 use Rattle.cluster_world.specs.Playing.{Played, events_of}
 use Rattle.cluster_world.specs.Seen.{names_of, named}
@@ -39,31 +39,31 @@ module _ (o : NamedOpening) where
 
 -- where these nodes have left, the core is that of a running node whose registrar is at an operation, and waits for no contact: where
 -- no letter waits it was refused
-abbrev pub seems_refused : List ℕ → Core → Bool
+abbrev pub seems_refused : List ℕ → CoreState → Bool
 seems_refused departed c =
     not (with_older departed c.name) && is_some c.registrar.current && is_none (join_number_of (node_of c).current)
 
 -- the first refused node was retried, with the answers behind those given before
-pub record RetriesInto (old new : Held) (given now : List Answer) : Type 0 where
+pub record RetriesInto (old new : WorldState) (given now : List Answer) : Type 0 where
   pub node : ℕ
   pub refused : first_refused (names_of old) (named old) ≡ Some node
   pub played : Played (At node Retry) old new given now
 
 -- something comes next, and the protocol accepts it
-pub record HasMore (h : Held) : Type 0 where
+pub record HasMore (h : WorldState) : Type 0 where
   pub event : NamedEvent
   pub next : next_to_finish (names_of h) (named h) ≡ Some event
   pub accepted : named_refusal (names_of h) (named h) event ≡ None
 
 -- A world was finished: all was played that comes next, with these answers. So nothing waits but lock calls, whatever made the old
 -- world what it was: each running registrar is free, with nothing queued, and each name call and each join has been answered
-pub record Finishes (old new : Held) (given : List Answer) : Type 0 where
+pub record Finishes (old new : WorldState) (given : List Answer) : Type 0 where
   pub goes_on : GoesOn next_to_finish old new given
   pub ended : next_to_finish (names_of new) (named new) ≡ None
   pub leads_on : (before : List NamedEvent) → IsRunOf before old
       → LeadsOn (of_names (names_of old)) before (named old) (events_of goes_on.events)
 
 -- Of these events some were played, the first ones, with these answers, and memory was refused for the next
-pub record StopsFinishing (old new : Held) (given : List Answer) : Type 0 where
+pub record StopsFinishing (old new : WorldState) (given : List Answer) : Type 0 where
   pub goes_on : GoesOn next_to_finish old new given
   pub waits : HasMore new

@@ -5,7 +5,7 @@ pub use Rattle.getting_through.specs.Worlds
 pub use Rattle.getting_through.specs.WorldsOfNames
 pub use Rattle.getting_through.specs.Leftovers as LeftoversOfWorlds
 pub use Rattle.getting_through.specs.NobodyBack
-pub use Rattle.node_core.specs.Held as NodeCoreHeld
+pub use Rattle.node_core.specs.CoreState as NodeCoreState
 pub use Rattle.node_core.specs.NodeEventsSeen
 pub use Rattle.node_core.specs.Seen as NodeCoreSeen
 pub use Rattle.node_core.specs.Steps as NodeCoreSteps
@@ -17,7 +17,7 @@ pub mod Mail
 pub mod Cores
 pub mod Histories
 pub mod Openings
-pub mod Held
+pub mod WorldState
 pub mod Seen
 pub mod Whole
 pub mod Restarting

@@ -2,7 +2,7 @@
 use Rattle.std.specs.Prelude.{ℕ, true, false, ◌==◌, ◌<◌, ◌≡◌, ◌&&◌, ◌||◌, ◌⊎◌, nat_le, nat_lt, Option, Some, None, List, [], ◌∷◌, map, filter, All, if◌then◌else◌}
 use Rattle.registry_model.specs.Process.{Nodes}
 use Rattle.link.specs.declared.link_place.LinkPlace.{LinkPlace}
-use Rattle.link.specs.Held.{place}
+use Rattle.link.specs.MeshState.{place}
 use Rattle.protocol_model.specs.Links.{Links, is_nil, posted}
 use Rattle.term.specs.Nodes.{name_of}
 use Rattle.term.specs.NodeSets.{set_of, with_older}

@@ -5,7 +5,7 @@ use Rattle.protocol_model.specs.ClientLocks.{Try, tally_from, last_try, is_won, 
 use Rattle.protocol_model.specs.Letter.{Id, Client}
 use Rattle.protocol_model.specs.World.{Opening, World, WorldEvent as AnyWorldEvent, in_world, left, opening_world, refusal, happens, answers, run}
 use Rattle.world_events.specs.declared.events.WorldEvent.{WorldEvent}
-use Rattle.cluster_world.specs.Held.{Held}
+use Rattle.cluster_world.specs.WorldState.{WorldState}
 use Rattle.world_events.specs.Openings.{opening_with}
 use Rattle.getting_through.specs.NamedWorld.{NamedEvent, as_events}
 use Rattle.cluster_world.specs.Seen.{names_of, opening_of, seen, named}
@@ -22,7 +22,7 @@ LocksAfter o es w = ClientLocks (of_nodes o) es w
 
 -- Whatever made the old world what it was, that and then these events made the new one, locks exclude each other and are
 -- answered so behind them all: in the world of names, and in the world of nodes that it is
-abbrev pub LocksBehind : List WorldEvent → Held → Held → Type 0
+abbrev pub LocksBehind : List WorldEvent → WorldState → WorldState → Type 0
 LocksBehind es old new = (before : List NamedEvent) → IsRunOf before old
     → LocksAfter (opening_of new) (as_events (names_of new) (before ++ events_of es)) (seen new)
     × ClientLocks (of_names (names_of new)) (before ++ events_of es) (named new)

@@ -4,8 +4,8 @@ use Rattle.std.specs.List.{All}
 use Rattle.protocol_model.specs.Links.{Links}
 use Rattle.term.specs.Nodes.{name_of}
 use Rattle.term.specs.NodeSets.{set_of, with_older}
-use Rattle.link.specs.Held.{Held as Mesh, place, seen as on_mesh}
-use Rattle.node_core.specs.Held.{HaveLeft}
+use Rattle.link.specs.MeshState.{MeshState, place, seen as on_mesh}
+use Rattle.node_core.specs.CoreState.{HaveLeft}
 use Rattle.node_core.specs.declared.Letter.{Letter}
 use Rattle.cluster_world.specs.Links.{SentLetter, Unsent, with_unsent}
 
@@ -13,7 +13,7 @@ use Rattle.cluster_world.specs.Links.{SentLetter, Unsent, with_unsent}
 pub record Mailed : Type 0 where
   pub nodes : List ℕ
   pub departed : List ℕ
-  pub mesh : Mesh SentLetter
+  pub mesh : MeshState SentLetter
   pub unsent : Option Unsent
 
 -- of the letters of a name, those of node f

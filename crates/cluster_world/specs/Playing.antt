@@ -12,16 +12,16 @@ use Rattle.world_events.specs.declared.refusal.Refusal.{Refusal}
 use Rattle.world_events.specs.declared.events.WorldEvent.{WorldEvent}
 use Rattle.world_events.specs.Events.{named_event}
 use Rattle.world_events.specs.Refusals.{refusal_of}
-use Rattle.cluster_world.specs.Held.{Held}
+use Rattle.cluster_world.specs.WorldState.{WorldState}
 use Rattle.cluster_world.specs.Seen.{names_of, named}
 
 -- what no event changes, whatever comes of it
-pub record Keeps (old new : Held) : Type 0 where
+pub record Keeps (old new : WorldState) : Type 0 where
   pub names : names_of new ≡ names_of old
   pub cluster : new.cluster ≡ old.cluster
 
 -- an event was accepted and played: the protocol's world makes its step, and gives these answers behind those given before
-pub record Played (e : WorldEvent) (old new : Held) (given now : List Answer) : Type 0 where
+pub record Played (e : WorldEvent) (old new : WorldState) (given now : List Answer) : Type 0 where
   pub names : names_of new ≡ names_of old
   pub cluster : new.cluster ≡ old.cluster
   pub accepted : named_refusal (names_of old) (named old) (named_event e) ≡ None
@@ -29,7 +29,7 @@ pub record Played (e : WorldEvent) (old new : Held) (given now : List Answer) : 
   pub answers : map answer_of now ≡ map answer_of given ++ named_answers (names_of old) (named old) (named_event e)
 
 -- an event was refused as the protocol refuses it; memory is refused only where the protocol accepts it
-abbrev pub RefusedWith : Refusal → WorldEvent → Held → Type 0
+abbrev pub RefusedWith : Refusal → WorldEvent → WorldState → Type 0
 RefusedWith r e old = named_refusal (names_of old) (named old) (named_event e) ≡ refusal_of r
 
 abbrev pub events_of : List WorldEvent → List NamedEvent
@@ -46,7 +46,7 @@ answers_to_all o w [] = []
 answers_to_all o w (e ∷ es) = named_answers o w e ++ answers_to_all o (happens_named o w e) es
 
 -- these events were accepted and played, with their answers behind those given before
-pub record WentThrough (es : List WorldEvent) (old new : Held) (given now : List Answer) : Type 0 where
+pub record WentThrough (es : List WorldEvent) (old new : WorldState) (given now : List Answer) : Type 0 where
   pub accepted : accepts_all (names_of old) (named old) (events_of es) ≡ true
   pub world : named new ≡ run_named (names_of old) (named old) (events_of es)
   pub answers : map answer_of now ≡ map answer_of given ++ answers_to_all (names_of old) (named old) (events_of es)
@@ -57,7 +57,7 @@ IsStop es k o w None = k ≡ length es
 IsStop es k o w (Some r) = (e : WorldEvent) × (slice_get es k ≡ Some e) × (named_refusal o w (named_event e) ≡ refusal_of r)
 
 -- the first k of these events were accepted and played
-pub record IsSoFar (es : List WorldEvent) (old new : Held) (k : ℕ) (given : List Answer) : Type 0 where
+pub record IsSoFar (es : List WorldEvent) (old new : WorldState) (k : ℕ) (given : List Answer) : Type 0 where
   pub names : names_of new ≡ names_of old
   pub cluster : new.cluster ≡ old.cluster
   pub accepted : accepts_all (names_of old) (named old) (events_of (take k es)) ≡ true
@@ -65,7 +65,7 @@ pub record IsSoFar (es : List WorldEvent) (old new : Held) (k : ℕ) (given : Li
   pub answers : map answer_of given ≡ answers_to_all (names_of old) (named old) (events_of (take k es))
 
 -- the first k of these events were accepted and played, with these answers, and then it stopped, which changed nothing
-pub record Ran (es : List WorldEvent) (old new : Held) (k : ℕ) (given : List Answer) (stop : Option Refusal) : Type 0 where
+pub record Ran (es : List WorldEvent) (old new : WorldState) (k : ℕ) (given : List Answer) (stop : Option Refusal) : Type 0 where
   pub names : names_of new ≡ names_of old
   pub cluster : new.cluster ≡ old.cluster
   pub within : k ≤ length es
@@ -75,6 +75,6 @@ pub record Ran (es : List WorldEvent) (old new : Held) (k : ℕ) (given : List A
   pub stopped : IsStop es k (names_of old) (run_named (names_of old) (named old) (events_of (take k es))) stop
 
 -- the delivery that `settle` makes next is that of the first link, by names, on which a letter waits for a node at present
-abbrev pub WaitsOn : Option (ℕ × ℕ) → Held → Type 0
+abbrev pub WaitsOn : Option (ℕ × ℕ) → WorldState → Type 0
 WaitsOn None h = next_named (names_of h) (named h) ≡ None
 WaitsOn (Some (x, y)) h = next_named (names_of h) (named h) ≡ Some (Deliver (text_in x) (text_in y))

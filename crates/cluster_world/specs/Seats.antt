@@ -13,13 +13,13 @@ use Rattle.node_core.specs.declared.Answer.{Answer}
 use Rattle.node_core.specs.declared.Call.{Call}
 use Rattle.node_core.specs.declared.Call.TheVariants.{SetLock, DelLock}
 use Rattle.node_core.specs.NodeEventsSeen.{answer_of, call_of}
-use Rattle.world_events.specs.declared.events.Event.TheVariants.{Call as Calls}
+use Rattle.world_events.specs.declared.events.LocalEvent.TheVariants.{Call as Calls}
 use Rattle.world_events.specs.declared.events.WorldEvent.{WorldEvent}
 use Rattle.world_events.specs.declared.events.WorldEvent.TheVariants.{At}
 use Rattle.cluster_world.specs.declared.seat.WorldSeat.{WorldSeat}
-use Rattle.cluster_world.specs.declared.seat.SeatFault.{SeatFault}
-use Rattle.cluster_world.specs.declared.seat.SeatFault.TheVariants.{Refused, NoMemory, NoAnswer}
-use Rattle.cluster_world.specs.Held.{Held}
+use Rattle.cluster_world.specs.declared.seat.WorldSeatFault.{WorldSeatFault}
+use Rattle.cluster_world.specs.declared.seat.WorldSeatFault.TheVariants.{Refused, NoMemory, NoAnswer}
+use Rattle.cluster_world.specs.WorldState.{WorldState}
 use Rattle.world_events.specs.declared.refusal.Refusal.{Refusal}
 use Rattle.world_events.specs.Events.{named_event}
 use Rattle.world_events.specs.Refusals.{is_memory, out_of_memory}
@@ -56,13 +56,13 @@ abbrev pub next_for : NamedOpening → ℕ → NamedWorld → NamedEvent
 next_for o a w = elim (next_named o w) [ None ↦ NamedEvent.AtNode a AnyEvent.Retry | Some e ↦ e ]
 
 -- it was played, and gave these answers
-pub record PlaysNext (a : ℕ) (old new : Held) (given : List Answer) : Type 0 where
+pub record PlaysNext (a : ℕ) (old new : WorldState) (given : List Answer) : Type 0 where
   pub event : WorldEvent
   pub next : named_event event ≡ next_for (names_of old) a (named old)
   pub played : Played event old new [] given
 
 -- or it was refused
-pub record RefusesNext (a : ℕ) (old : Held) (why : Refusal) : Type 0 where
+pub record RefusesNext (a : ℕ) (old : WorldState) (why : Refusal) : Type 0 where
   pub event : WorldEvent
   pub next : named_event event ≡ next_for (names_of old) a (named old)
   pub refused : RefusedWith why event old
@@ -84,7 +84,7 @@ until_answered o a k most w e =
 
 -- these events, at most so many, were played while call k of node a wasn't answered, and this is what it was answered
 -- then, if it was
-pub record Waited (a k most : ℕ) (old new : Held) (verdict : Option Bool) : Type 0 where
+pub record Waited (a k most : ℕ) (old new : WorldState) (verdict : Option Bool) : Type 0 where
   pub events : List WorldEvent
   pub given : List Answer
   pub played : WentThrough events old new [] given
@@ -92,7 +92,7 @@ pub record Waited (a k most : ℕ) (old new : Held) (verdict : Option Bool) : Ty
   pub answered : verdict_in a k (map answer_of given) ≡ verdict
 
 -- what waiting comes to; where memory is refused, the events until then were played
-abbrev pub HasWaited : ℕ → ℕ → Held → Held → Result Bool SeatFault → Type 0
+abbrev pub HasWaited : ℕ → ℕ → WorldState → WorldState → Result Bool WorldSeatFault → Type 0
 HasWaited a k old new (Ok granted) = Waited a k MOST_EVENTS old new (Some granted)
 HasWaited a k old new (Err NoAnswer) = Waited a k MOST_EVENTS old new None
 HasWaited a k old new (Err (Refused r)) =
@@ -102,7 +102,7 @@ HasWaited a k old new (Err NoMemory) = ⊥
 -- A call was accepted at node a and played, and then what it waits for, at most so many events. This is what it was
 -- answered, if it was, the headline and the laws of locks hold and nothing is left over behind all that was played, and a
 -- lock call counts
-pub record Called (a : ℕ) (c : Call) (most : ℕ) (old new : Held) (verdict : Option Bool) : Type 0 where
+pub record Called (a : ℕ) (c : Call) (most : ℕ) (old new : WorldState) (verdict : Option Bool) : Type 0 where
   pub events : List WorldEvent
   pub given : List Answer
   pub played : WentThrough events old new [] given
@@ -121,30 +121,30 @@ names_nodes (DelLock p id nodes) = is_named nodes
 names_nodes _ = false
 
 -- why the world refuses an event, if it does; where it has nothing against it, only memory may be refused
-abbrev pub IsWhyRefused : Option Refusal → WorldEvent → Held → Type 0
+abbrev pub IsWhyRefused : Option Refusal → WorldEvent → WorldState → Type 0
 IsWhyRefused None e old = RefusedWith out_of_memory e old
 IsWhyRefused (Some r) e old = RefusedWith r e old
 
 -- why a call isn't played that there was no memory to make, by why the world refuses it, if it does
-abbrev pub unmade : Option Refusal → SeatFault
+abbrev pub unmade : Option Refusal → WorldSeatFault
 unmade None = NoMemory
 unmade (Some r) = Refused r
 
 -- memory was refused before a call of node a was played, and nothing was; or while it waits, and what was played until then
 -- stands
-abbrev pub HasBegun : ℕ → Call → Held → Held → Type 0
+abbrev pub HasBegun : ℕ → Call → WorldState → WorldState → Type 0
 HasBegun a c old new =
     (named new ≡ named old) ⊎ ((most : ℕ) × (most ≤ MOST_EVENTS) × Called a c most old new None)
 
 -- an event wasn't played: the world refused it, which changes nothing, or memory was refused
-abbrev pub IsUnplayed : WorldEvent → Held → Held → SeatFault → Type 0
+abbrev pub IsUnplayed : WorldEvent → WorldState → WorldState → WorldSeatFault → Type 0
 IsUnplayed e old new (Refused r) = RefusedWith r e old × (is_memory r ≡ false → new ≡ old) × (named new ≡ named old)
 IsUnplayed e old new _ = ⊥
 
 -- why a call got no reply: it was refused as the protocol refuses it, which changes nothing; or it was accepted, and
 -- memory was refused; or it names nodes and there was no memory to make it, and the world had nothing against it; or no
 -- answer came
-abbrev pub Unanswered : ℕ → Call → Held → Held → SeatFault → Type 0
+abbrev pub Unanswered : ℕ → Call → WorldState → WorldState → WorldSeatFault → Type 0
 Unanswered a c old new (Refused r) =
     RefusedWith r (At a (Calls c)) old × (is_memory r ≡ false → new ≡ old)
     × (is_memory r ≡ true → HasBegun a c old new)
@@ -152,12 +152,12 @@ Unanswered a c old new NoMemory = (new ≡ old) × (names_nodes c ≡ true) × R
 Unanswered a c old new NoAnswer = Called a c MOST_EVENTS old new None
 
 -- what a `set_lock` comes to
-abbrev pub SetsLock : ℕ → Call → Held → Held → Result Bool SeatFault → Type 0
+abbrev pub SetsLock : ℕ → Call → WorldState → WorldState → Result Bool WorldSeatFault → Type 0
 SetsLock a c old new (Ok granted) = Called a c MOST_EVENTS old new (Some granted)
 SetsLock a c old new (Err fault) = Unanswered a c old new fault
 
 -- what a `del_lock` comes to
-abbrev pub DeletesLock : ℕ → Call → Held → Held → Result Unit SeatFault → Type 0
+abbrev pub DeletesLock : ℕ → Call → WorldState → WorldState → Result Unit WorldSeatFault → Type 0
 DeletesLock a c old new (Ok _) = (granted : Bool) × Called a c MOST_EVENTS old new (Some granted)
 DeletesLock a c old new (Err fault) = Unanswered a c old new fault
 

@@ -7,34 +7,34 @@ use Rattle.protocol_model.specs.World.{Opening, in_world, in_cluster, World}
 use Rattle.getting_through.specs.NodeNames.{NamedOpening, opening_of as all_creations}
 use Rattle.getting_through.specs.NamedWorld.{NamedWorld}
 use Rattle.term.specs.NodeSets.{with_older}
-use Rattle.node_core.specs.Held.{Held as Core}
+use Rattle.node_core.specs.CoreState.{CoreState}
 use Rattle.node_core.specs.Letters.{letter_of}
 use Rattle.node_core.specs.Seen.{node_of}
 use Rattle.cluster_world.specs.Mail.{Mailed, links_of}
 use Rattle.cluster_world.specs.Cores.{core_of}
-use Rattle.cluster_world.specs.Held.{Held, nodes_of}
+use Rattle.cluster_world.specs.WorldState.{WorldState, nodes_of}
 use Rattle.cluster_world.specs.Openings.{named_opening, present_in}
 use Rattle.world_history.specs.Histories.{entries_of}
 
 -- how the world opened: the names of its nodes
-abbrev pub names_of : Held → NamedOpening
+abbrev pub names_of : WorldState → NamedOpening
 names_of h = named_opening (nodes_of h) h.cluster
 
 -- and the world of all their creations that this is
-abbrev pub opening_of : Held → Opening
+abbrev pub opening_of : WorldState → Opening
 opening_of h = all_creations (names_of h)
 
 -- the first of these
-abbrev pub or_else : Option Core → Option Core → Option Core
+abbrev pub or_else : Option CoreState → Option CoreState → Option CoreState
 or_else None other = other
 or_else (Some c) other = Some c
 
 -- the core of a node that has started
-abbrev pub core_at : ℕ → Held → Option Core
+abbrev pub core_at : ℕ → WorldState → Option CoreState
 core_at a h = or_else (core_of a h.cores) (core_of a h.past)
 
 -- node a with this core; without one it hasn't started, and stands as any node opens
-abbrev pub node_with : Opening → ℕ → Option Core → Node
+abbrev pub node_with : Opening → ℕ → Option CoreState → Node
 node_with o a None = opening_node (in_cluster o) a
 node_with o a (Some c) = node_of c
 
@@ -48,7 +48,7 @@ all_links o m = record {
 }
 
 -- what is held, as a world of the protocol
-abbrev pub seen : Held → World
+abbrev pub seen : WorldState → World
 seen h = record {
   node = λ a. node_with (opening_of h) a (core_at a h);
   links = all_links (opening_of h) h.links;
@@ -56,9 +56,9 @@ seen h = record {
 }
 
 -- and as one of named nodes
-abbrev pub named : Held → NamedWorld
+abbrev pub named : WorldState → NamedWorld
 named h = record { world = seen h; present = present_in (nodes_of h) }
 
 -- where these nodes have left, the core is that of a running joined node that holds the global lock
-abbrev pub is_holding : List ℕ → Core → Bool
+abbrev pub is_holding : List ℕ → CoreState → Bool
 is_holding departed c = c.joined && holds_global (node_of c) && not (with_older departed c.name)

@@ -4,14 +4,14 @@ use Rattle.std.specs.List.{All}
 use Rattle.term.specs.Nodes.{IsFirst}
 use Rattle.term.specs.NodeSets.{IsNodeSet, set_of, with_older}
 use Rattle.getting_through.specs.NamedWorld.{NamedEvent, after_events}
-use Rattle.cluster_world.specs.Held.{Held, nodes_of}
+use Rattle.cluster_world.specs.WorldState.{WorldState, nodes_of}
 use Rattle.cluster_world.specs.Links.{AreFit}
 use Rattle.cluster_world.specs.Mail.{links_of}
 use Rattle.cluster_world.specs.Seen.{named, names_of}
 
 -- The cores are those of the nodes at present, and of older ones; those of running nodes know the nodes at present; and some events made
 -- the world what it is
-pub record IsWhole (h : Held) : Type 0 where
+pub record IsWhole (h : WorldState) : Type 0 where
   pub set : IsNodeSet (nodes_of h)
   pub cluster : All IsFirst h.cluster
   pub names : map (λ c. c.name) h.cores ≡ nodes_of h

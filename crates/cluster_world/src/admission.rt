@@ -4,7 +4,7 @@ ghost use Rattle.cluster_world.specs.Admissions.{place_by};
 
 use link::LinkPlace;
 use term::Node;
-use world_events::Event;
+use world_events::LocalEvent;
 
 /// The delivery of the oldest letter on a link.
 #[derive(Drop)]
@@ -32,7 +32,7 @@ pub(crate) struct Comeback {
 #[derive(Drop)]
 pub(crate) enum Admission<'a> {
     /// An event of the node at this place.
-    Own(usize, &'a Node, &'a Event),
+    Own(usize, &'a Node, &'a LocalEvent),
     /// A delivery.
     Deliver(Delivery),
     /// A restart.

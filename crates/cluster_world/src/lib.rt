@@ -13,11 +13,11 @@ mod turns;
 mod world;
 
 pub use run_end::RunEnd;
-pub use seat::{SeatFault, WorldSeat};
+pub use seat::{WorldSeat, WorldSeatFault};
 pub use settle::Interrupted;
 pub use world::World;
 pub use world_events::{
-    Answer, Call, Event, Letter, Look, NameCall, NameList, NodeCore, Nodes, Notice, NoticeList,
-    Opening, Refusal, Reply, Retries, StartFault, StepFault, WorldEvent,
+    Answer, Call, Letter, LocalEvent, Look, NameCall, NameList, NodeCore, Nodes, Notice,
+    NoticeList, Opening, Refusal, Reply, Retries, StartFault, StepFault, WorldEvent,
 };
 pub use world_history::{HistoryEntry, KeptEntry};

@@ -5,10 +5,10 @@ ghost use Rattle.std.specs.Option.{option_copied};
 ghost use Rattle.protocol_model.specs.Links.{no_letters, is_nil, posted, taken, closed_out};
 ghost use Rattle.term.specs.Nodes.{IsFirst, name_of};
 ghost use Rattle.term.specs.NodeSets.{set_of, names_in, with_older, succeeded};
-ghost use Rattle.cluster_world.specs.NodeCoreHeld.{HaveLeft, IsNext};
+ghost use Rattle.cluster_world.specs.NodeCoreState.{HaveLeft, IsNext};
 ghost use Rattle.cluster_world.specs.Links.{letters_to, rest_as, lesser, earlier, IsBetween, IsFirstSender, IsLeastOpen, WaitsFirst};
 ghost use Rattle.cluster_world.specs.Mail.{on_links, links_of};
-ghost use Rattle.link.specs.Held.{place as place_in};
+ghost use Rattle.link.specs.MeshState.{place as place_in};
 
 use crate::admission::Delivery;
 use link::{LinkPlace, Mesh};

@@ -2,7 +2,7 @@
 ghost use Rattle.std.specs.Prelude.{ℕ, ◌≡◌, ◌<◌, [], map, if◌then◌else◌, OnOk, IfOk, IfErr};
 ghost use Rattle.std.specs.Vec.{vec_len, vec_capacity};
 ghost use Rattle.node_core.specs.NodeEventsSeen.{answer_of};
-ghost use Rattle.cluster_world.specs.declared.seat.SeatFault.TheVariants.{Refused, NoAnswer};
+ghost use Rattle.cluster_world.specs.declared.seat.WorldSeatFault.TheVariants.{Refused, NoAnswer};
 ghost use Rattle.world_events.specs.Refusals.{is_memory, out_of_memory};
 ghost use Rattle.cluster_world.specs.Playing.{Keeps, Played};
 ghost use Rattle.cluster_world.specs.Steps.{IsAdmitted};
@@ -14,11 +14,11 @@ use std::alloc::{AllocError, Global};
 use term::{LockId, MOST_EVENTS, Node, Pid};
 use thiserror::Error;
 use transaction::{LockReply, LockSeat, Nodes, Retries};
-use world_events::{Answer, Call, Event, Refusal, Reply, StepFault, WorldEvent};
+use world_events::{Answer, Call, LocalEvent, Refusal, Reply, StepFault, WorldEvent};
 
 /// Why a call at a seat got no reply.
 #[derive(Debug, PartialEq, Eq, Error, Drop)]
-pub enum SeatFault {
+pub enum WorldSeatFault {
     /// The world refused the call, and nothing changed. `Memory` alone may also be refused while the call waits: then what was played
     /// until then stands, and the call goes on waiting in the world.
     #[error("{0}")]
@@ -32,19 +32,19 @@ pub enum SeatFault {
     NoAnswer,
 }
 
-impl From<Refusal> for SeatFault {
+impl From<Refusal> for WorldSeatFault {
     ghost from_gives = { λ refusal fault. fault ≡ Refused refusal };
 
-    fn from(refusal: Refusal) -> SeatFault {
-        SeatFault::Refused(refusal)
+    fn from(refusal: Refusal) -> WorldSeatFault {
+        WorldSeatFault::Refused(refusal)
     }
 }
 
-impl From<AllocError> for SeatFault {
+impl From<AllocError> for WorldSeatFault {
     ghost from_gives = { λ _ fault. fault ≡ Refused out_of_memory };
 
-    fn from(_: AllocError) -> SeatFault {
-        SeatFault::Refused(Refusal::from(AllocError))
+    fn from(_: AllocError) -> WorldSeatFault {
+        WorldSeatFault::Refused(Refusal::from(AllocError))
     }
 }
 
@@ -76,22 +76,24 @@ fn verdict_in(answers: &[Answer], node: &Node, number: u64) -> Option<bool>
 
 /// Why a call isn't answered, where what it waits for is refused: all links are empty, and nothing is left to retry, unless
 /// memory was refused.
-fn no_answer(refusal: &Refusal) -> SeatFault
+fn no_answer(refusal: &Refusal) -> WorldSeatFault
     ensures { result ≡ (if is_memory refusal.now then Refused out_of_memory else NoAnswer) }
 {
     match refusal {
-        Refusal::Step(StepFault::Memory) => { SeatFault::Refused(Refusal::Step(StepFault::Memory)) }
-        _ => SeatFault::NoAnswer,
+        Refusal::Step(StepFault::Memory) => {
+            WorldSeatFault::Refused(Refusal::Step(StepFault::Memory))
+        }
+        _ => WorldSeatFault::NoAnswer,
     }
 }
 
 /// Why a call isn't played that there was no memory to make: what the world has against it comes first.
-fn unmade(refusal: Option<Refusal>) -> SeatFault
+fn unmade(refusal: Option<Refusal>) -> WorldSeatFault
     ensures { result ≡ unmade refusal }
 {
     match refusal {
-        Some(refusal) => SeatFault::Refused(refusal),
-        None => SeatFault::NoMemory,
+        Some(refusal) => WorldSeatFault::Refused(refusal),
+        None => WorldSeatFault::NoMemory,
     }
 }
 
@@ -100,14 +102,14 @@ impl<N: Names<Memory = Global>> World<N> {
     ghost use Rattle.transaction.specs.declared.nodes.Nodes.{Nodes as AnyNodes};
     ghost use Rattle.transaction.specs.declared.nodes.Retries.{Retries as AnyRetries};
     ghost use Rattle.term.specs.NodeSets.{set_of};
-    ghost use Rattle.cluster_world.specs.Held.{nodes_of};
+    ghost use Rattle.cluster_world.specs.WorldState.{nodes_of};
     ghost use Rattle.cluster_world.specs.Seats.{next_number, PlaysNext, RefusesNext, HasWaited, IsWhyRefused};
     ghost use Rattle.cluster_world.specs.Seen.{seen, named};
 
     /// Why a `set_lock` of a process is refused, if it is. It takes no memory.
     fn set_refusal(&self, holder: &Pid, id: &LockId, nodes: &Nodes) -> Option<Refusal>
         ensures { (retries : AnyRetries) → IsWhyRefused result (WorldEvent.At holder.now.node
-            (Event.Call (Call.SetLock holder.now id.now nodes.now retries))) self.now }
+            (LocalEvent.Call (Call.SetLock holder.now id.now nodes.now retries))) self.now }
     {
         match self.running(&holder.node) {
             Ok(place) => {
@@ -121,10 +123,10 @@ impl<N: Names<Memory = Global>> World<N> {
     /// Why a `del_lock` of a process is refused, if it is, whichever nodes it asks. It takes no memory.
     fn deletion_refusal(&self, holder: &Pid, id: &LockId) -> Option<Refusal>
         ensures { (nodes : AnyNodes) → IsWhyRefused result (WorldEvent.At holder.now.node
-            (Event.Call (Call.DelLock holder.now id.now nodes))) self.now }
+            (LocalEvent.Call (Call.DelLock holder.now id.now nodes))) self.now }
     {
         let call = Call::DelLock(holder.copy(), id.copy(), Nodes::All);
-        let event = WorldEvent::At(holder.node.copy(), Event::Call(call));
+        let event = WorldEvent::At(holder.node.copy(), LocalEvent::Call(call));
         self.admit(&event).err()
     }
 
@@ -148,13 +150,13 @@ impl<N: Names<Memory = Global>> World<N> {
     {
         match self.deliver_next() {
             Ok(Some(answers)) => Ok(answers),
-            Ok(None) => self.play(&WorldEvent::At(node.copy(), Event::Retry)),
+            Ok(None) => self.play(&WorldEvent::At(node.copy(), LocalEvent::Retry)),
             Err(refused) => Err(Refusal::from(refused)),
         }
     }
 
     /// Plays what call `number` of the node waits for, until it is answered.
-    fn wait(&mut self, node: &Node, number: u64) -> Result<bool, SeatFault>
+    fn wait(&mut self, node: &Node, number: u64) -> Result<bool, WorldSeatFault>
         ensures kept { Keeps self.old self.new }
         ensures waited { HasWaited node.now number self.old self.new result }
     {
@@ -168,7 +170,7 @@ impl<N: Names<Memory = Global>> World<N> {
                 Err(refusal) => return Err(no_answer(&refusal)),
             }
         }
-        Err(SeatFault::NoAnswer)
+        Err(WorldSeatFault::NoAnswer)
     }
 }
 
@@ -178,7 +180,7 @@ fn begin<N: Names<Memory = Global>>(
     world: &mut World<N>,
     replies: &mut Vec<LockReply>,
     event: &WorldEvent,
-) -> Result<Vec<Answer>, SeatFault>
+) -> Result<Vec<Answer>, WorldSeatFault>
     ensures replies { replies.new.items ≡ replies.old.items }
     ensures room { OnOk result (vec_len replies.new < vec_capacity replies.new) }
     ensures kept { Keeps world.old world.new }
@@ -228,7 +230,7 @@ impl<'a, N: Names<Memory = Global>> WorldSeat<'a, N> {
     }
 
     /// Plays a lock call of the holder, and waits for its answer. There is room for one reply more, then.
-    fn call(&mut self, call: Call) -> Result<bool, SeatFault>
+    fn call(&mut self, call: Call) -> Result<bool, WorldSeatFault>
         ensures same_world { self.new.world.ghost_name ≡ self.old.world.ghost_name }
         ensures holder { self.new.holder ≡ self.old.holder }
         ensures replies { self.new.replies.items ≡ self.old.replies.items }
@@ -238,7 +240,7 @@ impl<'a, N: Names<Memory = Global>> WorldSeat<'a, N> {
     {
         let node = self.holder.node.copy();
         let number = self.world.next_number(&node);
-        let event = WorldEvent::At(node.copy(), Event::Call(call));
+        let event = WorldEvent::At(node.copy(), LocalEvent::Call(call));
         let answers = begin(self.world, &mut self.replies, &event)?;
         match verdict_in(answers.as_slice(), &node, number) {
             Some(granted) => Ok(granted),
@@ -252,7 +254,7 @@ impl<'a, N: Names<Memory = Global>> LockSeat for WorldSeat<'a, N> {
     ghost use Rattle.node_core.specs.declared.Call.TheVariants.{SetLock, DelLock};
     ghost use Rattle.cluster_world.specs.Seats.{holder_of, replies_of, Grows, SetsLock, DeletesLock};
 
-    type Fault = SeatFault;
+    type Fault = WorldSeatFault;
 
     ghost replies = { λ s. replies_of s };
 
@@ -267,7 +269,7 @@ impl<'a, N: Names<Memory = Global>> LockSeat for WorldSeat<'a, N> {
         id: &LockId,
         nodes: &Nodes,
         retries: Retries,
-    ) -> Result<bool, SeatFault> {
+    ) -> Result<bool, WorldSeatFault> {
         let Ok(nodes) = nodes.copy() else {
             return Err(unmade(self.world.set_refusal(&self.holder, id, nodes)));
         };
@@ -278,7 +280,7 @@ impl<'a, N: Names<Memory = Global>> LockSeat for WorldSeat<'a, N> {
         Ok(granted)
     }
 
-    fn del_lock(&mut self, id: &LockId, nodes: &Nodes) -> Result<(), SeatFault> {
+    fn del_lock(&mut self, id: &LockId, nodes: &Nodes) -> Result<(), WorldSeatFault> {
         let Ok(nodes) = nodes.copy() else {
             return Err(unmade(self.world.deletion_refusal(&self.holder, id)));
         };

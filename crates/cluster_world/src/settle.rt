@@ -13,7 +13,7 @@ use name_table::Names;
 use std::alloc::{AllocError, Global};
 use term::{Node, NodeSet};
 use thiserror::Error;
-use world_events::{Answer, Event, NodeCore, WorldEvent};
+use world_events::{Answer, LocalEvent, NodeCore, WorldEvent};
 
 /// Memory was refused for an event: what was played until then stands, and the world may be gone on with later.
 #[derive(Debug, Error, Drop)]
@@ -116,7 +116,7 @@ impl<N: Names<Memory = Global>> World<N> {
             return Ok(false);
         };
         // The protocol accepts it, so memory alone may be refused.
-        match self.play_into(&WorldEvent::At(node, Event::Retry), answers) {
+        match self.play_into(&WorldEvent::At(node, LocalEvent::Retry), answers) {
             Ok(()) => Ok(true),
             Err(_) => Err(AllocError),
         }

@@ -7,7 +7,7 @@ ghost use Rattle.getting_through.specs.WorldsOfNames.{of_names};
 ghost use Rattle.term.specs.Nodes.{IsFirst};
 ghost use Rattle.term.specs.NodeSets.{IsNodeSet};
 ghost use Rattle.world_events.specs.Openings.{opening_core, start_refused, start_fault_of};
-ghost use Rattle.cluster_world.specs.Held.{nodes_of};
+ghost use Rattle.cluster_world.specs.WorldState.{nodes_of};
 ghost use Rattle.cluster_world.specs.Seen.{names_of, opening_of, seen, named};
 ghost use Rattle.cluster_world.specs.Agreeing.{AgreesAfter};
 ghost use Rattle.cluster_world.specs.Locks.{LocksAfter};
@@ -16,7 +16,7 @@ ghost use Rattle.cluster_world.specs.Starting.{Opens};
 use crate::mail::Mail;
 use crate::world::World;
 use name_table::Names;
-use past::Log;
+use past::Trace;
 use std::alloc::{AllocError, Global};
 use term::NodeName;
 use world_events::{NodeCore, Opening, StartFault, Turn};
@@ -62,7 +62,7 @@ impl<N: Names<Memory = Global>> World<N> {
         Ok(World {
             cluster: opening.cluster().copy(),
             cores,
-            past: Log::new(),
+            past: Trace::new(),
             links,
             history,
             spare: Turn::begin(alloc),

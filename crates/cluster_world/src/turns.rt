@@ -3,7 +3,7 @@ ghost use Rattle.std.specs.Prelude.{◌≡◌, ◌≤◌, ◌-◌, ◌^◌, ◌+
 ghost use Rattle.std.specs.List.{All};
 ghost use Rattle.protocol_model.specs.Links.{posted};
 ghost use Rattle.term.specs.NodeSets.{with_older};
-ghost use Rattle.link.specs.Held.{place as place_in};
+ghost use Rattle.link.specs.MeshState.{place as place_in};
 ghost use Rattle.node_core.specs.NodeEventsSeen.{entry_by};
 ghost use Rattle.world_history.specs.Histories.{entries_of};
 ghost use Rattle.cluster_world.specs.Histories.{number_at};

@@ -2,7 +2,7 @@
 ghost use Rattle.std.specs.Prelude.{◌≡◌, ◌<◌, ◌≤◌, ◌-◌, ◌^◌, [], ◌∷◌, ◌++◌, length, slice_set, slice_index_or, min, map, None, OnOk, OnErr};
 ghost use Rattle.std.specs.List.{All};
 ghost use Rattle.term.specs.NodeSets.{with_older, succeeded};
-ghost use Rattle.cluster_world.specs.NodeCoreHeld.{HaveLeft, IsNext};
+ghost use Rattle.cluster_world.specs.NodeCoreState.{HaveLeft, IsNext};
 ghost use Rattle.node_core.specs.Rare.{most_entries};
 ghost use Rattle.world_history.specs.declared.entry.HistoryEntry.{HistoryEntry};
 ghost use Rattle.cluster_world.specs.Mail.{links_of};
@@ -16,12 +16,12 @@ use crate::run_end::RunEnd;
 use crate::turns::take_in;
 use link::LinkPlace;
 use name_table::Names;
-use past::Log;
+use past::Trace;
 use std::alloc::{AllocError, Global};
 use std::marker::Model;
 use std::mem;
 use term::{Node, NodeName, NodeSet};
-use world_events::{Answer, Cause, Event, NodeCore, Refusal, Turn, WorldEvent};
+use world_events::{Answer, Cause, LocalEvent, NodeCore, Refusal, Turn, WorldEvent};
 use world_history::{History, KeptEntry};
 
 /// A world: its nodes, the links between them, and the history. A name whose node has left may come back: then its next node starts.
@@ -33,7 +33,7 @@ pub struct World<N: Names> {
     /// The core of each node at present, in the order of the nodes.
     pub(crate) cores: Vec<NodeCore<N>>,
     /// The cores of nodes that were replaced, for proofs alone.
-    pub(crate) past: Log<NodeCore<N>, ()>,
+    pub(crate) past: Trace<NodeCore<N>, ()>,
     pub(crate) links: Mail,
     pub(crate) history: History,
     /// The memory of an earlier step, for what the next one makes.
@@ -42,10 +42,10 @@ pub struct World<N: Names> {
 
 impl<N: Names> Model for World<N> {
     ghost use Rattle.std.specs.Prelude.{map};
-    ghost use Rattle.cluster_world.specs.Held.{Held};
+    ghost use Rattle.cluster_world.specs.WorldState.{WorldState};
     ghost use Rattle.cluster_world.specs.Whole.{IsWhole};
 
-    ghost Value = { Held };
+    ghost Value = { WorldState };
 
     ghost view = { λ w. record {
       cluster = w.cluster;
@@ -145,7 +145,7 @@ fn replace_in<N: Names<Memory = Global>>(
 /// Puts a core at a place, and keeps the one that stood there, for proofs alone.
 fn put_core<N: Names<Memory = Global>>(
     cores: &mut [NodeCore<N>],
-    past: &mut Log<NodeCore<N>, ()>,
+    past: &mut Trace<NodeCore<N>, ()>,
     place: usize,
     core: NodeCore<N>,
 )
@@ -162,16 +162,16 @@ impl<N: Names<Memory = Global>> World<N> {
     ghost use Rattle.std.specs.Option.{option_copied};
     ghost use Rattle.protocol_model.specs.World.{holder, left};
     ghost use Rattle.getting_through.specs.NamedWorld.{present_node};
-    ghost use Rattle.cluster_world.specs.NodeCoreHeld.{AreOf, HaveLeft};
+    ghost use Rattle.cluster_world.specs.NodeCoreState.{AreOf, HaveLeft};
     ghost use Rattle.term.specs.Nodes.{IsFirst, name_of, text_in};
     ghost use Rattle.term.specs.NodeSets.{set_of, names_in};
-    ghost use Rattle.link.specs.Held.{place as place_in};
-    ghost use Rattle.cluster_world.specs.Held.{nodes_of};
+    ghost use Rattle.link.specs.MeshState.{place as place_in};
+    ghost use Rattle.cluster_world.specs.WorldState.{nodes_of};
     ghost use Rattle.cluster_world.specs.Whole.{IsWhole};
     ghost use Rattle.cluster_world.specs.Cores.{core_of};
     ghost use Rattle.cluster_world.specs.Admissions.{delivered_by, event_by, place_by, IsFound, IsReady, MayStart};
     ghost use Rattle.cluster_world.specs.Seen.{names_of, opening_of, seen, named};
-    ghost use Rattle.world_events.specs.declared.events.Event.{Event as NodeEvent};
+    ghost use Rattle.world_events.specs.declared.events.LocalEvent.{LocalEvent as NodeEvent};
     ghost use Rattle.world_events.specs.Events.{knows_contact};
     ghost use Rattle.world_events.specs.Refusals.{is_memory};
     ghost use Rattle.cluster_world.specs.Steps.{IsAdmitted, AreFew};
@@ -206,7 +206,7 @@ impl<N: Names<Memory = Global>> World<N> {
     }
 
     /// The place of the node that an event of a node is played at, or why the event is refused. It takes no memory.
-    fn admit_own(&self, node: &Node, event: &Event) -> Result<usize, Refusal>
+    fn admit_own(&self, node: &Node, event: &LocalEvent) -> Result<usize, Refusal>
         ensures ok { IfOk result (λ place. IsAdmitted place (WorldEvent.At node.now event.now) self.now) }
         ensures refused { IfErr result (λ refusal. RefusedWith refusal (WorldEvent.At node.now event.now) self.now) }
     {
@@ -323,7 +323,7 @@ impl<N: Names<Memory = Global>> World<N> {
         &mut self,
         place: usize,
         node: &Node,
-        event: &Event,
+        event: &LocalEvent,
     ) -> Result<Vec<Answer>, AllocError>
         requires { IsAdmitted place (WorldEvent.At node.now event.now) self.old }
         ensures kept { Keeps self.old self.new }

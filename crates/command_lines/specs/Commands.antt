@@ -6,7 +6,7 @@ use Rattle.term.specs.Nodes.{text_in}
 use Rattle.world_events.specs.Events.{own_event_of, named_event}
 use Rattle.command_lines.specs.declared.faults.LineFault.{LineFault}
 use Rattle.command_lines.specs.declared.faults.LineFault.TheVariants.{LineTooLong, NotAscii}
-use Rattle.command_lines.specs.declared.grammar.Task.{Task}
+use Rattle.command_lines.specs.declared.grammar.LineCommand.{LineCommand}
 use Rattle.term.specs.declared.limits.TheConstants.{LONGEST_LINE}
 use Rattle.text_lines.specs.Words.{words}
 use Rattle.command_lines.specs.Grammar.{ScriptLine, Scripted, Finish, WordsAsk, WordsNameNodes}
@@ -32,16 +32,16 @@ LineAsks line r = AsksUnless (unread line) line r
 abbrev pub LineNamesNodes : List ℕ → Type 0
 LineNamesNodes line = (unread line ≡ None) × WordsNameNodes (words line)
 
--- a task of the program, as a line of a script
-abbrev pub line_in : Task → ScriptLine
-line_in (Task.Play e) = Scripted (Play (named_event e))
-line_in (Task.At x e) = Scripted (Play (NamedEvent.At (text_in x) (own_event_of e)))
-line_in Task.Settle = Scripted Settle
-line_in Task.Finish = Finish
-line_in (Task.Table x) = Scripted (TableAt (text_in x))
-line_in (Task.Members x) = Scripted (MembersAt (text_in x))
+-- a command of the program, as a line of a script
+abbrev pub line_in : LineCommand → ScriptLine
+line_in (LineCommand.Play e) = Scripted (Play (named_event e))
+line_in (LineCommand.At x e) = Scripted (Play (NamedEvent.At (text_in x) (own_event_of e)))
+line_in LineCommand.Settle = Scripted Settle
+line_in LineCommand.Finish = Finish
+line_in (LineCommand.Table x) = Scripted (TableAt (text_in x))
+line_in (LineCommand.Members x) = Scripted (MembersAt (text_in x))
 
 -- what was read, as what a line asks for
-abbrev pub asked_by : Result Task LineFault → Result ScriptLine LineFault
+abbrev pub asked_by : Result LineCommand LineFault → Result ScriptLine LineFault
 asked_by (Ok t) = Ok (line_in t)
 asked_by (Err f) = Err f

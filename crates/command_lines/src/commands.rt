@@ -5,7 +5,7 @@ ghost use Rattle.command_lines.specs.declared.faults.LineFault.TheVariants.{Memo
 ghost use Rattle.command_lines.specs.Commands.{LineAsks, LineNamesNodes, asked_by, unread, is_ascii};
 
 use crate::faults::LineFault;
-use crate::grammar::{Task, read_words};
+use crate::grammar::{LineCommand, read_words};
 use std::alloc::Global;
 use std::str;
 use text_lines::{Line, first_words};
@@ -44,7 +44,7 @@ pub fn text_of(line: &Line) -> Result<&str, LineFault>
 /// What a line asks for, or why it is refused. No line of the grammar has seven words, so a longer one reads as its first seven.
 /// Only a lock call that names nodes takes memory; where that is refused the fault is `Memory`.
 #[tactic(auto, using(crate::proofs::Words::first_words_ask))]
-pub fn read_task(alloc: Global, line: &Line) -> Result<Task, LineFault>
+pub fn read_command(alloc: Global, line: &Line) -> Result<LineCommand, LineFault>
     ensures asks { result ≢ Err Memory → (bytes : List ℕ) → IsKept bytes line.now → LineAsks bytes (asked_by result) }
     ensures memory { result ≡ Err Memory → (bytes : List ℕ) → IsKept bytes line.now → LineNamesNodes bytes }
 {
@@ -52,10 +52,10 @@ pub fn read_task(alloc: Global, line: &Line) -> Result<Task, LineFault>
 }
 
 /// Whether a line couldn't be read for want of memory.
-pub fn ran_out(task: &Result<Task, LineFault>) -> bool
-    ensures { MatchBool result (task.now ≡ Err Memory) (task.now ≢ Err Memory) }
+pub fn ran_out(command: &Result<LineCommand, LineFault>) -> bool
+    ensures { MatchBool result (command.now ≡ Err Memory) (command.now ≢ Err Memory) }
 {
-    match task {
+    match command {
         Ok(_) => false,
         Err(fault) => matches!(fault, LineFault::Memory),
     }

@@ -20,15 +20,15 @@ use term::{
     parse_node_name, parse_pid, parse_requester, parse_resource, parse_rule,
 };
 use transaction::{Nodes, Retries};
-use world_events::{Call, Event, WorldEvent};
+use world_events::{Call, LocalEvent, WorldEvent};
 
 /// What a line asks for.
 #[derive(Drop)]
-pub enum Task {
+pub enum LineCommand {
     /// An event is played.
     Play(WorldEvent),
     /// An event is played at the present node of this name.
-    At(NodeName, Event),
+    At(NodeName, LocalEvent),
     /// Letters are delivered until none waits.
     Settle,
     /// The same, and refused registrars are retried until none is left.
@@ -40,10 +40,10 @@ pub enum Task {
 }
 
 /// A call at the present node of a name.
-fn call(node: NodeName, call: Call) -> Task
+fn call(node: NodeName, call: Call) -> LineCommand
     ensures { line_in result ≡ call_to node (call_of call) }
 {
-    Task::At(node, Event::Call(call))
+    LineCommand::At(node, LocalEvent::Call(call))
 }
 
 /// A name for a process, under this rule.
@@ -54,17 +54,20 @@ fn pair_for(name: Name, owner: Pid, rule: Rule) -> Pair
 }
 
 /// The exit of a process, at its node.
-fn exit(process: Pid) -> Task
+fn exit(process: Pid) -> LineCommand
     ensures { line_in result ≡ at_node process.node (Exiting process) }
 {
-    Task::Play(WorldEvent::At(process.node.copy(), Event::Exit(process)))
+    LineCommand::Play(WorldEvent::At(process.node.copy(), LocalEvent::Exit(process)))
 }
 
 /// A look-up of what a process was sent, at its node.
-fn notices(process: Pid) -> Task
+fn notices(process: Pid) -> LineCommand
     ensures { line_in result ≡ call_at process.node (LookUp (NoticesOf process)) }
 {
-    Task::Play(WorldEvent::At(process.node.copy(), Event::Call(Call::Notices(process))))
+    LineCommand::Play(WorldEvent::At(
+        process.node.copy(),
+        LocalEvent::Call(Call::Notices(process)),
+    ))
 }
 
 /// The nodes that a lock call asks: those that it names, or all members.
@@ -86,16 +89,16 @@ fn set_lock(
     id: LockId,
     named: Option<NodeNames>,
     retries: Retries,
-) -> Result<Task, AllocError>
+) -> Result<LineCommand, AllocError>
     requires { NamesSome named }
-    ensures ok { IfOk result (λ task. line_in task ≡ call_at holder.node
+    ensures ok { IfOk result (λ command. line_in command ≡ call_at holder.node
         (SetLock holder id.resource id.requester (target_in named) (retries_of retries))) }
     ensures memory { OnErr result (is_some named ≡ true) }
 {
     let nodes = nodes_of(alloc, named)?;
-    Ok(Task::Play(WorldEvent::At(
+    Ok(LineCommand::Play(WorldEvent::At(
         holder.node.copy(),
-        Event::Call(Call::SetLock(holder, id, nodes, retries)),
+        LocalEvent::Call(Call::SetLock(holder, id, nodes, retries)),
     )))
 }
 
@@ -105,15 +108,15 @@ fn del_lock(
     holder: Pid,
     id: LockId,
     named: Option<NodeNames>,
-) -> Result<Task, AllocError>
+) -> Result<LineCommand, AllocError>
     requires { NamesSome named }
-    ensures ok { IfOk result (λ task. line_in task ≡ call_at holder.node (DelLock holder id.resource id.requester (target_in named))) }
+    ensures ok { IfOk result (λ command. line_in command ≡ call_at holder.node (DelLock holder id.resource id.requester (target_in named))) }
     ensures memory { OnErr result (is_some named ≡ true) }
 {
     let nodes = nodes_of(alloc, named)?;
-    Ok(Task::Play(WorldEvent::At(
+    Ok(LineCommand::Play(WorldEvent::At(
         holder.node.copy(),
-        Event::Call(Call::DelLock(holder, id, nodes)),
+        LocalEvent::Call(Call::DelLock(holder, id, nodes)),
     )))
 }
 
@@ -166,18 +169,18 @@ fn holder_id_and_nodes(
 }
 
 /// What a word alone asks for.
-fn bare(word: &str) -> Result<Task, LineFault>
+fn bare(word: &str) -> Result<LineCommand, LineFault>
     ensures { WordsAsk (word.now ∷ []) (asked_by result) }
 {
     match word {
-        "settle" => Ok(Task::Settle),
-        "finish" => Ok(Task::Finish),
+        "settle" => Ok(LineCommand::Settle),
+        "finish" => Ok(LineCommand::Finish),
         _ => Err(LineFault::BadLine),
     }
 }
 
 /// What a word with one text asks for.
-fn with_one(word: &str, text: &str) -> Result<Task, LineFault>
+fn with_one(word: &str, text: &str) -> Result<LineCommand, LineFault>
     ensures { WordsAsk (word.now ∷ text.now ∷ []) (asked_by result) }
 {
     match word {
@@ -185,17 +188,17 @@ fn with_one(word: &str, text: &str) -> Result<Task, LineFault>
         "exit" => Ok(exit(parse_pid(text)?)),
         "names" => Ok(call(parse_node_name(text)?, Call::RegisteredNames)),
         "notices" => Ok(notices(parse_pid(text)?)),
-        "retry" => Ok(Task::At(parse_node_name(text)?, Event::Retry)),
-        "leave" => Ok(Task::At(parse_node_name(text)?, Event::Leave)),
-        "restart" => Ok(Task::Play(WorldEvent::Restart(parse_node_name(text)?))),
-        "members" => Ok(Task::Members(parse_node_name(text)?)),
-        "table" => Ok(Task::Table(parse_node_name(text)?)),
+        "retry" => Ok(LineCommand::At(parse_node_name(text)?, LocalEvent::Retry)),
+        "leave" => Ok(LineCommand::At(parse_node_name(text)?, LocalEvent::Leave)),
+        "restart" => Ok(LineCommand::Play(WorldEvent::Restart(parse_node_name(text)?))),
+        "members" => Ok(LineCommand::Members(parse_node_name(text)?)),
+        "table" => Ok(LineCommand::Table(parse_node_name(text)?)),
         _ => Err(LineFault::BadLine),
     }
 }
 
 /// What a word with two texts asks for.
-fn with_two(word: &str, text: &str, next: &str) -> Result<Task, LineFault>
+fn with_two(word: &str, text: &str, next: &str) -> Result<LineCommand, LineFault>
     ensures { WordsAsk (word.now ∷ text.now ∷ next.now ∷ []) (asked_by result) }
 {
     match word {
@@ -204,14 +207,14 @@ fn with_two(word: &str, text: &str, next: &str) -> Result<Task, LineFault>
         "join" => Ok(call(parse_node_name(text)?, Call::Join(parse_node(next)?))),
         "deliver" => {
             let sender = parse_node_name(text)?;
-            Ok(Task::Play(WorldEvent::Deliver(sender, parse_node_name(next)?)))
+            Ok(LineCommand::Play(WorldEvent::Deliver(sender, parse_node_name(next)?)))
         }
         _ => Err(LineFault::BadLine),
     }
 }
 
 /// What a word with three texts asks for.
-fn with_three(word: &str, text: &str, next: &str, last: &str) -> Result<Task, LineFault>
+fn with_three(word: &str, text: &str, next: &str, last: &str) -> Result<LineCommand, LineFault>
     ensures { WordsAsk (word.now ∷ text.now ∷ next.now ∷ last.now ∷ []) (asked_by result) }
 {
     match word {
@@ -235,7 +238,7 @@ fn with_four(
     next: &str,
     third: &str,
     last: &str,
-) -> Result<Task, LineFault>
+) -> Result<LineCommand, LineFault>
     ensures asks { result ≢ Err Memory → WordsAsk (word.now ∷ text.now ∷ next.now ∷ third.now ∷ last.now ∷ []) (asked_by result) }
     ensures memory { result ≡ Err Memory → WordsNameNodes (word.now ∷ text.now ∷ next.now ∷ third.now ∷ last.now ∷ []) }
 {
@@ -265,7 +268,7 @@ fn with_five(
     requester: &str,
     nodes: &str,
     retries: &str,
-) -> Result<Task, LineFault>
+) -> Result<LineCommand, LineFault>
     ensures asks { result ≢ Err Memory
         → WordsAsk (word.now ∷ holder.now ∷ resource.now ∷ requester.now ∷ nodes.now ∷ retries.now ∷ []) (asked_by result) }
     ensures memory { result ≡ Err Memory
@@ -284,7 +287,7 @@ fn with_five(
 }
 
 /// What the words of a line ask for, or why it is refused.
-pub fn read_words(alloc: Global, words: &[&str]) -> Result<Task, LineFault>
+pub fn read_words(alloc: Global, words: &[&str]) -> Result<LineCommand, LineFault>
     ensures asks { result ≢ Err Memory → WordsAsk (map (λ word. word.now) words.now) (asked_by result) }
     ensures memory { result ≡ Err Memory → WordsNameNodes (map (λ word. word.now) words.now) }
 {

@@ -7,12 +7,12 @@ mod grammar;
 mod lock_texts;
 mod printing;
 
-pub use commands::{ran_out, read_task, text_of};
+pub use commands::{ran_out, read_command, text_of};
 pub use faults::LineFault;
-pub use grammar::{Task, read_words};
+pub use grammar::{LineCommand, read_words};
 pub use lock_texts::{parse_retries, parse_target};
 pub use name_table::Pair;
 pub use printing::{answer_line, members_line, refusal_line, started_line, step_line, table_line};
 pub use world_events::{
-    Answer, Call, Event, Notice, NoticeList, Refusal, Reply, StartFault, StepFault, WorldEvent,
+    Answer, Call, LocalEvent, Notice, NoticeList, Refusal, Reply, StartFault, StepFault, WorldEvent,
 };

@@ -1,8 +1,8 @@
 -- A seat that answers is the same seat still, and knows of no fewer moments of its node.
 use Rattle.std.proofs.Common.{ℕ, Bool, ◌≡◌, Option, Result, Ok, Err, refl, sym, ap, subst, ◌∙◌, inl, inr, arith}
 use Rattle.command_lines.specs.declared.Reply.{Reply}
-use Rattle.command_lines.specs.declared.Event.{Event}
-use Rattle.command_lines.specs.declared.Event.TheVariants as event
+use Rattle.command_lines.specs.declared.LocalEvent.{LocalEvent}
+use Rattle.command_lines.specs.declared.LocalEvent.TheVariants as event
 use base.Growing.{prefix_trans}
 use Rattle.registry_model.specs.Process.{Process, Text}
 use Rattle.node_seats.specs.declared.fault.SeatFault.{SeatFault}
@@ -58,18 +58,18 @@ told_fault s fault.Closed t h = h
 told_fault s fault.SeatsSpent t h = h
 told_fault s fault.Memory t h = h
 
-refused : (f : SeatFault) (e : Event) (s t : Sitting) → IsRefused f e s t → GoesOn s t
+refused : (f : SeatFault) (e : LocalEvent) (s t : Sitting) → IsRefused f e s t → GoesOn s t
 refused f e s t R = record { node = ap (λ (y : Sitting). y.node) R.kept; learns = told_fault s f t R.told }
 
 -- a list for whose copy there was no memory was told all the same
-uncopied : (e : Event) (s t : Sitting) → Unanswered fault.Memory e s t → GoesOn s t
+uncopied : (e : LocalEvent) (s t : Sitting) → Unanswered fault.Memory e s t → GoesOn s t
 uncopied e s t (inl h) = stays s t h.0
 uncopied (event.Call call) s t (inr K) = record { node = ap (λ (y : Sitting). y.node) K.kept; learns = K.told.learns }
 uncopied (event.Exit p) s t (inr K) = absurd K
 uncopied event.Leave s t (inr K) = absurd K
 uncopied event.Retry s t (inr K) = absurd K
 
-unanswered : (f : SeatFault) (e : Event) (s t : Sitting) → Unanswered f e s t → GoesOn s t
+unanswered : (f : SeatFault) (e : LocalEvent) (s t : Sitting) → Unanswered f e s t → GoesOn s t
 unanswered fault.Memory e s t h = uncopied e s t h
 unanswered fault.SeatsSpent e s t h = absurd h
 unanswered (fault.Step why) e s t h = refused (fault.Step why) e s t h

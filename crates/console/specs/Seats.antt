@@ -3,7 +3,7 @@ use Rattle.std.specs.Prelude.{Bool, ◌≡◌, ◌⊎◌, ⊤, Option, Some, Non
 use Rattle.command_lines.specs.declared.Reply.{Reply}
 use Rattle.command_lines.specs.declared.Reply.TheVariants as reply
 use Rattle.node_seats.specs.declared.Transcript.{Transcript}
-use Rattle.command_lines.specs.declared.Event.TheVariants as event
+use Rattle.command_lines.specs.declared.LocalEvent.TheVariants as event
 use Rattle.node_seats.specs.declared.Effect.TheVariants.{Made, Left}
 use Rattle.node_seats.specs.declared.fault.SeatFault.{SeatFault}
 use Rattle.registry_model.specs.Process.{Process}

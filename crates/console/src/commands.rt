@@ -14,7 +14,9 @@ use crate::inquiries::{behind_word, described_in, inquiry_in, read_described};
 use crate::links::Links;
 use crate::orders::{Command, Inquiry, Order};
 use arrayvec::ArrayVec;
-use command_lines::{Call, Event, LineFault, Pair, Task, WorldEvent, ran_out, read_words, text_of};
+use command_lines::{
+    Call, LineCommand, LineFault, LocalEvent, Pair, WorldEvent, ran_out, read_words, text_of,
+};
 use std::alloc::{AllocError, Global};
 use term::{MOST_WORDS, Name, Pid, Rule, TextFault, parse_name, parse_node, parse_pid, parse_rule};
 use text_lines::{Line, first_words};
@@ -112,12 +114,12 @@ fn read_own(words: &[&str]) -> Result<Order, LineFault>
 
 /// What a lock call asks that was read as one of a script.
 #[tactic(auto, using(crate::proofs::LockCalls::lock_calls_call))]
-fn order_of(task: Result<Task, LineFault>) -> Result<Order, LineFault>
+fn order_of(task: Result<LineCommand, LineFault>) -> Result<Order, LineFault>
     ensures { (word : List ℕ) (texts : List (List ℕ)) → any_lock_word word ≡ true → WordsAsk (word ∷ texts) (asked_by task)
         → AsksAsScript word texts result }
 {
     match task {
-        Ok(Task::Play(WorldEvent::At(_, Event::Call(call)))) => Ok(Order::Call(call)),
+        Ok(LineCommand::Play(WorldEvent::At(_, LocalEvent::Call(call)))) => Ok(Order::Call(call)),
         // No lock call asks for anything else.
         Ok(_) => Err(LineFault::BadLine),
         Err(fault) => Err(fault),

@@ -14,7 +14,7 @@ use crate::locking::{is_granted, request_of, sets_lock, waits_in_line};
 use crate::orders::Order;
 use crate::status::House;
 use command_lines::{Call, Reply};
-use lock_lines::{Request, Turn};
+use lock_lines::{LinePlace, Request};
 use node_seats::{Retries, SeatFault, StepFault};
 use std::alloc::AllocError;
 use std::sync::Wait;
@@ -80,7 +80,7 @@ fn fewer(left: &Retries) -> Option<Retries>
 }
 
 /// Sleeps for so many milliseconds at most: where there is a turn, until the lock may be free.
-fn sleep<H: Wait + Clock>(rt: &H, turn: Option<&Turn>, millis: u64) {
+fn sleep<H: Wait + Clock>(rt: &H, turn: Option<&LinePlace>, millis: u64) {
     match turn {
         Some(turn) => turn.rest_for(rt, millis),
         None => thread::sleep(rt, Duration::from_millis(millis)),
@@ -88,7 +88,7 @@ fn sleep<H: Wait + Clock>(rt: &H, turn: Option<&Turn>, millis: u64) {
 }
 
 /// Whether the lock may have become free, as far as who has a turn is told.
-fn was_freed(turn: Option<&Turn>) -> bool {
+fn was_freed(turn: Option<&LinePlace>) -> bool {
     match turn {
         Some(turn) => turn.was_freed(),
         None => false,
@@ -176,7 +176,7 @@ impl<'a, C: Client + Drop, B> Borrower<'a, C, B> {
         rt: &H,
         request: &Request,
         linked: bool,
-    ) -> Result<Turn, SeatFault>
+    ) -> Result<LinePlace, SeatFault>
     where
         B: House<H>,
         ensures { IfErr result (λ fault. IsUnmade fault true) }
@@ -203,7 +203,7 @@ impl<'a, C: Client + Drop, B> Borrower<'a, C, B> {
         rt: &H,
         call: &Call,
         request: &Request,
-        turn: Option<&Turn>,
+        turn: Option<&LinePlace>,
         linked: bool,
     ) -> Result<Reply, SeatFault>
     where
@@ -227,7 +227,7 @@ impl<'a, C: Client + Drop, B> Borrower<'a, C, B> {
         &mut self,
         rt: &H,
         call: &Call,
-        turn: Option<&Turn>,
+        turn: Option<&LinePlace>,
         linked: bool,
     ) -> Result<Reply, SeatFault>
     where
@@ -294,7 +294,7 @@ impl<'a, C: Client + Drop, B> Borrower<'a, C, B> {
     fn rest_before_a_try<H: Wait + Clock>(
         &self,
         rt: &H,
-        turn: Option<&Turn>,
+        turn: Option<&LinePlace>,
         pause: u64,
         linked: bool,
     ) -> Result<u64, SeatFault>

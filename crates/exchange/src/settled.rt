@@ -6,7 +6,7 @@ ghost use Rattle.name_table.specs.Changes.{pair_under};
 
 use crate::notices::{Noted, Notice};
 use indexmap::IndexSet;
-use name_table::{Entry, Names, Pair};
+use name_table::{Names, Pair, Registration};
 use std::alloc::{AllocError, Global};
 use std::marker::Model;
 use term::{Name, Pid, Rule};
@@ -116,7 +116,7 @@ impl Settled {
     }
 
     /// A name of the joiner, under which this stands in the cluster, or nothing.
-    fn settle_one(&mut self, pair: &Pair, own: Option<Entry>) -> Result<(), AllocError>
+    fn settle_one(&mut self, pair: &Pair, own: Option<Registration>) -> Result<(), AllocError>
         ensures { OnOk result (self.new ≡ settle_one pair.now (pair_under pair.now.name own) self.old) }
     {
         match own {

@@ -6,10 +6,10 @@ use Rattle.protocol_model.specs.Node.{Node, opening_node}
 use Rattle.protocol_model.specs.Watch.{is_dead, is_issued}
 use Rattle.protocol_model.specs.Event.{Exiting, NoSuchProcess, AlreadyExited, cause, first_cause}
 use Rattle.exit_watch.specs.Faults.{Refuses}
-use Rattle.exit_watch.specs.Held.{Held}
+use Rattle.exit_watch.specs.WatchState.{WatchState}
 
 -- it isn't dead
-pub alive : (h : Held) (p : Process) → Refuses (Exiting p) h None → is_dead h.watch p.serial ≡ false
+pub alive : (h : WatchState) (p : Process) → Refuses (Exiting p) h None → is_dead h.watch p.serial ≡ false
 alive h p accepted = go (is_issued h.node h.watch p) (is_dead h.watch p.serial) (accepted v refl)
   where
     v : Node

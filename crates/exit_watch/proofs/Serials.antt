@@ -4,7 +4,7 @@ use Rattle.std.proofs.lemmas.Bool.{lt-ltb, le-ltb}
 use Rattle.protocol_model.specs.Watch.{Watch, is_dead, next_serial}
 use Rattle.protocol_model.specs.Event.{last_u32}
 use Rattle.protocol_model.proofs.Serials.{AreDeadTo, next_serial-is, next_serial-above}
-use Rattle.exit_watch.specs.Held.{serial_left}
+use Rattle.exit_watch.specs.WatchState.{serial_left}
 
 module _ (w : Watch) where
   -- the serial that is left: the first that lives, where none above all serials of the type has to be looked at

@@ -10,12 +10,12 @@ use Rattle.std.proofs.Math.Bool.{or-true}
 use Rattle.registry_model.specs.Process.{Process, is_process}
 use Rattle.registry_model.specs.Table.{Pair, Table, owns, put}
 use Rattle.protocol_model.specs.Watch.{Watch, is_dead, with_dead, owed}
-use Rattle.exit_watch.specs.Held.{Held, process_of, is_suspect, AreSuspected, AreDead, KeepsSuspects}
+use Rattle.exit_watch.specs.WatchState.{WatchState, process_of, is_suspect, AreSuspected, AreDead, KeepsSuspects}
 use Rattle.exit_watch.proofs.Sets.{any-inserted}
 use Rattle.exit_watch.proofs.Owners.{least_owner-owns, least_owner-least, least_owner-none, owns-put}
 
 -- a dead process that owns a name is owed a strike, where no suspect has a lesser serial
-pub owed-first : (h : Held) (t : Table) (s : ℕ) → AreSuspected h t → is_dead h.watch s ≡ true →
+pub owed-first : (h : WatchState) (t : Table) (s : ℕ) → AreSuspected h t → is_dead h.watch s ≡ true →
     owns (process_of h s) t ≡ true → ((r : ℕ) → is_suspect h r ≡ true → s ≤ r) → owed h.node t h.watch ≡ Some s
 owed-first h t s sus dead o least =
     let (r, e, m) = least_owner-least h.node t h.watch.dead s dead o in
@@ -24,7 +24,7 @@ owed-first h t s sus dead o least =
     e ∙ ap (λ (x : ℕ). Some x) i
 
 -- with no suspect nobody is owed one
-pub owed-none : (h : Held) (t : Table) → AreSuspected h t → ((r : ℕ) → is_suspect h r ≡ true → ⊥) →
+pub owed-none : (h : WatchState) (t : Table) → AreSuspected h t → ((r : ℕ) → is_suspect h r ≡ true → ⊥) →
     owed h.node t h.watch ≡ None
 owed-none h t sus none = least_owner-none h.node t h.watch.dead (λ r d. go r d (owns (process_of h r) t) refl)
   where
@@ -33,12 +33,12 @@ owed-none h t sus none = least_owner-none h.node t h.watch.dead (λ r d. go r d 
     go r d false e = e
 
 -- the watches differ in one process at most, which is a suspect of the later one
-pub record IsNoted (h k : Held) (s : ℕ) : Type 0 where
+pub record IsNoted (h k : WatchState) (s : ℕ) : Type 0 where
   pub node : k.node ≡ h.node
   pub suspects : (q : ℕ) → is_suspect k q ≡ ((q == s) || is_suspect h q)
 
 -- who isn't dead is no suspect
-pub unsuspected : (h : Held) (s : ℕ) → AreDead h → is_dead h.watch s ≡ false → is_suspect h s ≡ false
+pub unsuspected : (h : WatchState) (s : ℕ) → AreDead h → is_dead h.watch s ≡ false → is_suspect h s ≡ false
 unsuspected h s are alive = go (is_suspect h s) refl
   where
     go : (b : Bool) → is_suspect h s ≡ b → b ≡ false
@@ -46,7 +46,7 @@ unsuspected h s are alive = go (is_suspect h s) refl
     go false e = refl
 
 -- it is so after an insertion
-pub inserted : (h k : Held) (s : ℕ) (old new : BTreeSet ℕ) → h.suspects ≡ old.keys → k.suspects ≡ new.keys →
+pub inserted : (h k : WatchState) (s : ℕ) (old new : BTreeSet ℕ) → h.suspects ≡ old.keys → k.suspects ≡ new.keys →
     k.node ≡ h.node →
     ((q : ℕ) → contains nat_cmp new q ≡ cond (is_at (nat_cmp s) q) true (contains nat_cmp old q)) → IsNoted h k s
 inserted h k s old new a b e u = record {
@@ -56,7 +56,7 @@ inserted h k s old new a b e u = record {
       ∙ ap (λ (ds : List ℕ). (q == s) || list_any (λ d. d == q) ds) (sym a);
 }
 
-module _ (h k : Held) (s : ℕ) (n : IsNoted h k s) where
+module _ (h k : WatchState) (s : ℕ) (n : IsNoted h k s) where
   -- a suspect of the earlier watch is one of the later
   stays : (q : ℕ) → is_suspect h q ≡ true → is_suspect k q ≡ true
   stays q e = n.suspects q ∙ go (q == s)
@@ -126,7 +126,7 @@ module _ (h k : Held) (s : ℕ) (n : IsNoted h k s) where
             (owns-put (process_of k q) e t (ap (λ (r : Process). is_process r (process_of k q)) for ∙ other) o)
 
 -- a put for another process than the dead of this node makes no suspect
-pub put-keeps : (h : Held) (p : Process) → ((p.node == h.node) && is_dead h.watch p.serial) ≡ false →
+pub put-keeps : (h : WatchState) (p : Process) → ((p.node == h.node) && is_dead h.watch p.serial) ≡ false →
     (e : Pair) (t : Table) → e.owner ≡ p → AreSuspected h t → AreSuspected h (put e t)
 put-keeps h p other e t for sus q dead o = go (is_process p (process_of h q)) refl
   where

@@ -4,7 +4,7 @@ use Rattle.protocol_model.specs.Node.{Node}
 use Rattle.protocol_model.specs.Event.{Event, Refusal, SerialsSpent, NoSuchProcess, AlreadyExited, causes, first_cause}
 use Rattle.exit_watch.specs.declared.faults.WatchFault.{WatchFault}
 use Rattle.exit_watch.specs.declared.faults.WatchFault.TheVariants as fault
-use Rattle.exit_watch.specs.Held.{Held}
+use Rattle.exit_watch.specs.WatchState.{WatchState}
 
 -- the protocol's refusal; want of memory is none of its
 abbrev pub fault_of : WatchFault → Option Refusal
@@ -24,5 +24,5 @@ cause_of None = None
 cause_of (Some fault) = fault_of fault
 
 -- a node with this watch refuses the event so, or accepts it where that is none
-abbrev pub Refuses : Event → Held → Option Refusal → Type 0
+abbrev pub Refuses : Event → WatchState → Option Refusal → Type 0
 Refuses e h refusal = (v : Node) → v.watch ≡ h.watch → first_cause (causes h.node v e) ≡ refusal

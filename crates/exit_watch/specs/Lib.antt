@@ -1,3 +1,3 @@
 pub mod Spans
 pub mod Faults
-pub mod Held
+pub mod WatchState

@@ -5,7 +5,7 @@ ghost use Rattle.std.specs.Set.{distinct_count};
 ghost use Rattle.exit_watch.specs.Spans.{ends};
 
 use crate::spans::{add, has};
-use past::Log;
+use past::Trace;
 use std::alloc::{AllocError, Global};
 use std::collections::BTreeMap;
 use std::marker::Model;
@@ -16,7 +16,7 @@ use std::marker::Model;
 pub struct Dead {
     /// Where each span begins, under where it ends.
     spans: BTreeMap<u32, u32>,
-    order: Log<u32, ()>,
+    order: Trace<u32, ()>,
 }
 
 impl Model for Dead {
@@ -37,7 +37,7 @@ impl Dead {
     {
         Dead {
             spans: BTreeMap::new(alloc),
-            order: Log::new(),
+            order: Trace::new(),
         }
     }
 

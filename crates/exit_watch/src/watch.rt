@@ -7,7 +7,7 @@ ghost use Rattle.registry_model.specs.Table.{Pair, Table, put};
 ghost use Rattle.protocol_model.specs.Watch.{is_live, is_dead, is_issued, next_serial, with_spawned, with_dead, owed};
 ghost use Rattle.protocol_model.specs.Event.{Calling, Exiting, Spawn, last_u32};
 ghost use Rattle.exit_watch.specs.Faults.{Refuses, refusal_of, cause_of};
-ghost use Rattle.exit_watch.specs.Held.{watch_from, process_of, serial_left, with_killed, is_unnoted, AreSuspected, KeepsSuspects};
+ghost use Rattle.exit_watch.specs.WatchState.{watch_from, process_of, serial_left, with_killed, is_unnoted, AreSuspected, KeepsSuspects};
 ghost use Rattle.exit_watch.specs.declared.faults.WatchFault.TheVariants.{SerialsSpent, Memory};
 
 use crate::dead::Dead;
@@ -31,9 +31,9 @@ pub struct Watch {
 }
 
 impl Model for Watch {
-    ghost use Rattle.exit_watch.specs.Held.{Held, AreDead};
+    ghost use Rattle.exit_watch.specs.WatchState.{WatchState, AreDead};
 
-    ghost Value = { Held };
+    ghost Value = { WatchState };
 
     ghost view = { λ w. record {
       node = w.node;

@@ -3,7 +3,7 @@ use Rattle.std.specs.Prelude.{ℕ, true, ◌≡◌, ◌⊎◌, ◌<◌, ◌↔�
 use Rattle.registry_model.specs.declared.limits.TheConstants.{MOST_NODES}
 use Rattle.registry_model.specs.Table.{Table}
 use Rattle.protocol_model.specs.World.{Opening, in_world}
-use Rattle.closings.specs.Alone.{Entry}
+use Rattle.closings.specs.Alone.{LogEntry}
 use Rattle.closings.specs.Merging.{Step, IsMerged}
 use Rattle.closings.specs.Laws.{ConsistentEnds}
 use Rattle.fences.specs.Grants.{IsRun, fence, ArePlaces, Grant, RunsAt, IsRequested, IsLater, AreRivals, ComesFirst}
@@ -16,7 +16,7 @@ FencesAreOrdered = (place : ℕ → ℕ) (s t : Step) → place s.node < MOST_NO
 
 -- consistent ends, merged into one run, are a run
 abbrev pub MergedEndsAreRuns : Type 0
-MergedEndsAreRuns = (o : Opening) (logs : ℕ → List Entry) (tables : ℕ → Table) (ss : List Step) →
+MergedEndsAreRuns = (o : Opening) (logs : ℕ → List LogEntry) (tables : ℕ → Table) (ss : List Step) →
     ConsistentEnds o logs tables → IsMerged logs ss → IsRun o ss
 
 -- where places rise as nodes do, numbers rise along a run

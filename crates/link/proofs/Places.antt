@@ -13,7 +13,7 @@ use Rattle.term.proofs.NodePlaces.{place-Some, one_place}
 use Rattle.term.specs.declared.limits.TheConstants.{MOST_NODES}
 use Rattle.link.specs.Faults.{joins, IsLinkOf}
 use Rattle.link.specs.declared.link_place.LinkPlace.{LinkPlace}
-use Rattle.link.specs.Held.{Held, IsWhole, place, has, link_at, closed_at, seen, node_at, from_of, to_of, IsWithin}
+use Rattle.link.specs.MeshState.{MeshState, IsWhole, place, has, link_at, closed_at, seen, node_at, from_of, to_of, IsWithin}
 
 -- a test that passes nowhere has its first place behind the list
 none : (p : ℕ → Bool) (nodes : List ℕ) → position p nodes ≡ None → length nodes ≤ position_or_len p nodes
@@ -127,7 +127,7 @@ place-get_or nodes i rising l = go (place a nodes) refl
     ]
 
 -- nothing is on a link of which an end is no node of the mesh
-pub queue-stranger : {L : Type 0} (h : Held L) (f t : ℕ) → joins f t h ≡ false → (seen h).queue f t ≡ []
+pub queue-stranger : {L : Type 0} (h : MeshState L) (f t : ℕ) → joins f t h ≡ false → (seen h).queue f t ≡ []
 queue-stranger {L} h f t e = go (place f h.nodes) (place t h.nodes) e
   where
     go : (p q : Option ℕ) → (is_some p && is_some q) ≡ false → link_at p q h.links ≡ []
@@ -141,9 +141,9 @@ pub read_there : {X : Type 0} (d : X) (xs : List X) (i : ℕ) (old : X) → i < 
 read_there d xs i old l e = e ∙ get_or_default xs i old d l
 
 -- what was read at the place of a link is on it
-pub read_link : {L : Type 0} (h m : Held L) (k : LinkPlace) (i : ℕ) (old : List L) → h ≡ m → IsWhole h → IsWithin k m
+pub read_link : {L : Type 0} (h m : MeshState L) (k : LinkPlace) (i : ℕ) (old : List L) → h ≡ m → IsWhole h → IsWithin k m
     → i ≡ k.sender * MOST_NODES + k.receiver → old ≡ get_or h.links i old → old ≡ (seen m).queue (from_of k m) (to_of k m)
-read_link {L} h m k i old same whole within is was = subst (λ (m : Held L). IsWithin k m
+read_link {L} h m k i old same whole within is was = subst (λ (m : MeshState L). IsWithin k m
     → old ≡ (seen m).queue (from_of k m) (to_of k m)) same here within
   where
     here : IsWithin k h → old ≡ (seen h).queue (from_of k h) (to_of k h)
@@ -153,16 +153,16 @@ read_link {L} h m k i old same whole within is was = subst (λ (m : Held L). IsW
         (place-get_or h.nodes k.sender whole.rising w.0) (place-get_or h.nodes k.receiver whole.rising w.1))
 
 -- where a node was found stands this node
-pub found_at : {L : Type 0} (h : Held L) (a i : ℕ) (o : Option ℕ) → o ≡ place a h.nodes → o ≡ Some i
+pub found_at : {L : Type 0} (h : MeshState L) (a i : ℕ) (o : Option ℕ) → o ≡ place a h.nodes → o ≡ Some i
     → (i < length h.nodes) × (node_at i h ≡ a)
 found_at h a i o is found = place-Some a h.nodes i (sym is ∙ found)
 
 -- two nodes that are found have a link
-pub joined : {L : Type 0} (h : Held L) (f t i j : ℕ) → place f h.nodes ≡ Some i → place t h.nodes ≡ Some j
+pub joined : {L : Type 0} (h : MeshState L) (f t i j : ℕ) → place f h.nodes ≡ Some i → place t h.nodes ≡ Some j
     → joins f t h ≡ true
 joined h f t i j e g = ap (λ (o : Option ℕ). is_some o && has t h) e ∙ ap is_some g
 
-pub found_link : {L : Type 0} (h : Held L) (f t i j : ℕ) (o p : Option ℕ) → o ≡ place f h.nodes → p ≡ place t h.nodes
+pub found_link : {L : Type 0} (h : MeshState L) (f t i j : ℕ) (o p : Option ℕ) → o ≡ place f h.nodes → p ≡ place t h.nodes
     → o ≡ Some i → p ≡ Some j → IsLinkOf (Some (record { sender = i; receiver = j })) f t h
 found_link h f t i j o p e g found there =
     let sender = found_at h f i o e found in
@@ -170,7 +170,7 @@ found_link h f t i j o p e g found there =
     (joined h f t i j (sym e ∙ found) (sym g ∙ there), (sender.0, receiver.0), sender.1, receiver.1)
 
 -- no oldest letter is on a link, and so none
-pub nothing_on : {L : Type 0} (h : Held L) (k : LinkPlace) (f t : ℕ) → from_of k h ≡ f → to_of k h ≡ t
+pub nothing_on : {L : Type 0} (h : MeshState L) (k : LinkPlace) (f t : ℕ) → from_of k h ≡ f → to_of k h ≡ t
     → None ≡ slice_get ((seen h).queue (from_of k h) (to_of k h)) 0 → (seen h).queue f t ≡ []
 nothing_on {L} h k f t e g none = sym (ap (λ (x : ℕ). (seen h).queue x (to_of k h)) e
     ∙ ap (λ (y : ℕ). (seen h).queue f y) g) ∙ go ((seen h).queue (from_of k h) (to_of k h)) none

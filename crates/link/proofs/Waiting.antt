@@ -6,7 +6,7 @@ use Rattle.std.proofs.lemmas.Grind.{get_or_default_zero}
 use Rattle.std.proofs.lemmas.List.Kept.{AllPairs-from_increasing}
 use Rattle.protocol_model.specs.Links.{is_nil}
 use Rattle.term.specs.declared.limits.TheConstants.{MOST_NODES}
-use Rattle.link.specs.Held.{Held, IsWhole, place, link_at, seen, WaitsFrom, IsFirst, WaitsFirst, WaitsTowards}
+use Rattle.link.specs.MeshState.{MeshState, IsWhole, place, link_at, seen, WaitsFrom, IsFirst, WaitsFirst, WaitsTowards}
 use Rattle.term.proofs.NodePlaces.{place-Some}
 use Rattle.link.proofs.Places.{place-get_or, link_at-Some}
 
@@ -21,7 +21,7 @@ copy_at {xs} {ys} {x} {y} i e c r = c ∙ r ∙ ap (λ (zs : List ℕ). get_or z
     ∙ ap (λ (z : ℕ). get_or ys i z) (sym c)
 
 -- no link between two places has a letter
-pub waits_nowhere : {L : Type 0} (h : Held L)
+pub waits_nowhere : {L : Type 0} (h : MeshState L)
     → ((i k : ℕ) → i < length h.nodes → k < length h.nodes → get_or h.links (i * MOST_NODES + k) [] ≡ [])
     → WaitsFirst None h
 waits_nowhere h nothing x y = go (place x h.nodes) (place y h.nodes) refl refl
@@ -32,7 +32,7 @@ waits_nowhere h nothing x y = go (place x h.nodes) (place y h.nodes) refl refl
     go (Some i) (Some k) e f = nothing i k (place-Some x h.nodes i e).0 (place-Some y h.nodes k f).0
 
 -- of rising nodes the lesser stands before
-stands_before : {L : Type 0} (h : Held L) → IsWhole h → (x y i k : ℕ) → place x h.nodes ≡ Some i → place y h.nodes
+stands_before : {L : Type 0} (h : MeshState L) → IsWhole h → (x y i k : ℕ) → place x h.nodes ≡ Some i → place y h.nodes
     ≡ Some k → x < y → i < k
 stands_before h whole x y i k e f less = elim (cases_order i k) [
   | inl same ↦ absurd (omega (
@@ -52,7 +52,7 @@ stands_before h whole x y i k e f less = elim (cases_order i k) [
 ]
 
 -- no link from an earlier sender has a letter, and this is the first receiver of this sender
-pub waits_here : {L : Type 0} (h : Held L) (i j : ℕ) → IsWhole h → i < length h.nodes
+pub waits_here : {L : Type 0} (h : MeshState L) (i j : ℕ) → IsWhole h → i < length h.nodes
     → ((x k : ℕ) → x < i → k < length h.nodes → get_or h.links (x * MOST_NODES + k) [] ≡ []) → WaitsFrom i (Some j) h
     → WaitsFirst (Some (get_or h.nodes i 0, get_or h.nodes j 0)) h
 waits_here h i j whole within before here = (
@@ -93,11 +93,11 @@ waits_here h i j whole within before here = (
     first x y less = go x y less (place x h.nodes) (place y h.nodes) refl refl
 
 -- no letter waits for this node from the first i nodes
-abbrev pub NoneFrom : {L : Type 0} → ℕ → ℕ → Held L → Type 0
+abbrev pub NoneFrom : {L : Type 0} → ℕ → ℕ → MeshState L → Type 0
 NoneFrom i t h = (k : ℕ) → k < i → (seen h).queue (get_or h.nodes k 0) t ≡ []
 
 -- nor from the next
-pub none_more : {L : Type 0} (h : Held L) (t i f : ℕ) → NoneFrom i t h → i < length h.nodes → f ≡ get_or h.nodes i f
+pub none_more : {L : Type 0} (h : MeshState L) (t i f : ℕ) → NoneFrom i t h → i < length h.nodes → f ≡ get_or h.nodes i f
     → is_nil ((seen h).queue f t) ≡ true → NoneFrom (i + 1) t h
 none_more h t i f none within is empty k less = elim (cases_eq k i) [
   | inl same ↦ ap (λ (j : ℕ). (seen h).queue (get_or h.nodes j 0) t) same
@@ -107,7 +107,7 @@ none_more h t i f none within is empty k less = elim (cases_eq k i) [
 ]
 
 -- a stranger has sent none, and what no node of these has sent waits from none of them
-none_of : {L : Type 0} (h : Held L) (t i x : ℕ) → NoneFrom i t h → ((k : ℕ) → place x h.nodes ≡ Some k → k < i)
+none_of : {L : Type 0} (h : MeshState L) (t i x : ℕ) → NoneFrom i t h → ((k : ℕ) → place x h.nodes ≡ Some k → k < i)
     → (seen h).queue x t ≡ []
 none_of h t i x none below = go (place x h.nodes) refl
   where
@@ -116,11 +116,11 @@ none_of h t i x none below = go (place x h.nodes) refl
     go (Some k) e = ap (λ (y : ℕ). (seen h).queue y t) (sym (place-Some x h.nodes k e).1) ∙ none k (below k e)
 
 -- no node has sent one
-pub none_towards : {L : Type 0} (h : Held L) (t i : ℕ) → NoneFrom i t h → length h.nodes ≤ i → WaitsTowards t None h
+pub none_towards : {L : Type 0} (h : MeshState L) (t i : ℕ) → NoneFrom i t h → length h.nodes ≤ i → WaitsTowards t None h
 none_towards h t i none all x = none_of h t i x none (λ k e. omega (arith, (place-Some x h.nodes k e).0))
 
 -- the node at this place is the least that has
-pub least_towards : {L : Type 0} (h : Held L) (t i f : ℕ) → IsWhole h → NoneFrom i t h → i < length h.nodes
+pub least_towards : {L : Type 0} (h : MeshState L) (t i f : ℕ) → IsWhole h → NoneFrom i t h → i < length h.nodes
     → f ≡ get_or h.nodes i f → is_nil ((seen h).queue f t) ≡ false → WaitsTowards t (Some f) h
 least_towards h t i f whole none within is waits = (
   waits,

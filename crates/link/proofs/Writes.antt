@@ -7,7 +7,7 @@ use Rattle.std.proofs.lemmas.List.{append-nil}
 use Rattle.registry_model.proofs.Updates.{by_test}
 use Rattle.protocol_model.specs.Links.{Links, posted, taken, closed_out}
 use Rattle.term.specs.declared.limits.TheConstants.{MOST_NODES}
-use Rattle.link.specs.Held.{Held, IsWhole, place, link_at, seen, only_to}
+use Rattle.link.specs.MeshState.{MeshState, IsWhole, place, link_at, seen, only_to}
 use Rattle.link.specs.Reopening.{reopened}
 use Rattle.term.proofs.NodePlaces.{place-Some, one_place}
 use Rattle.link.proofs.Places.{link_at-Some, closed_at-Some, link_at-set, closed_at-set, read_there}
@@ -22,7 +22,7 @@ pub queues_agree : {L : Type 0} (w : Links L) (p q : ℕ → ℕ → List L) →
 queues_agree w p q same = ap (with_queue w) (fun_ext (λ x. fun_ext (λ y. same x y)))
 
 -- a letter at the back of its link
-pub seen-push : {L : Type 0} (h : Held L) (f t i j : ℕ) (letter : L) (old new : List L) → IsWhole h
+pub seen-push : {L : Type 0} (h : MeshState L) (f t i j : ℕ) (letter : L) (old new : List L) → IsWhole h
     → place f h.nodes ≡ Some i → place t h.nodes ≡ Some j
     → get_or h.closed j false ≡ false → old ≡ get_or h.links (i * MOST_NODES + j) old → new ≡ old ++ letter ∷ []
     → seen (record h { links = set h.links (i * MOST_NODES + j) new }) ≡ posted f (only_to t letter) (seen h)
@@ -58,7 +58,7 @@ seen-push {L} h f t i j letter old new whole e g running was is =
         (from_f y) (λ x ne. refl) x
 
 -- the oldest letter of a link is taken
-pub seen-pop : {L : Type 0} (h : Held L) (f t i j : ℕ) (old new : List L) → IsWhole h
+pub seen-pop : {L : Type 0} (h : MeshState L) (f t i j : ℕ) (old new : List L) → IsWhole h
     → place f h.nodes ≡ Some i → place t h.nodes ≡ Some j
     → old ≡ get_or h.links (i * MOST_NODES + j) old → new ≡ drop 1 old
     → seen (record h { links = set h.links (i * MOST_NODES + j) new }) ≡ taken f t (seen h)
@@ -80,7 +80,7 @@ seen-pop {L} h f t i j old new whole e g was is =
         (λ x ne. refl) x
 
 -- a node was closed out: the links to it are empty, and all others as they were
-pub seen-cleared : {L : Type 0} (h : Held L) (d j : ℕ) (links : List (List L)) → IsWhole h → place d h.nodes ≡ Some j
+pub seen-cleared : {L : Type 0} (h : MeshState L) (d j : ℕ) (links : List (List L)) → IsWhole h → place d h.nodes ≡ Some j
     → ((i k : ℕ) → i < MOST_NODES → k < MOST_NODES
     → get_or links (i * MOST_NODES + k) [] ≡ (if k == j then [] else get_or h.links (i * MOST_NODES + k) []))
     → seen (record h { links = links; closed = set h.closed j true }) ≡ closed_out d (seen h)
@@ -116,7 +116,7 @@ seen-cleared {L} h d j links whole e cleared =
         (λ y ne. past x y ne (place x h.nodes) (place y h.nodes) refl refl) y
 
 -- a node was reopened: all links are as they were
-pub seen-reopened : {L : Type 0} (h : Held L) (d j : ℕ) → IsWhole h → place d h.nodes ≡ Some j
+pub seen-reopened : {L : Type 0} (h : MeshState L) (d j : ℕ) → IsWhole h → place d h.nodes ≡ Some j
     → seen (record h { closed = set h.closed j false }) ≡ reopened d (seen h)
 seen-reopened h d j whole e = ap (λ (c : ℕ → Bool). record { queue = (seen h).queue; closed = c })
     (fun_ext (λ x. closed_at-set h.nodes h.closed d j false whole.few whole.closed e x))

@@ -1,5 +1,5 @@
 pub mod Faults
-pub mod Held
+pub mod MeshState
 pub mod Mailboxes
 pub mod MeshEnds
 pub mod Moves

@@ -6,7 +6,7 @@ use Rattle.protocol_model.specs.Links.{posted, taken}
 use Rattle.link.specs.declared.faults.LinkFault.{LinkFault}
 use Rattle.link.specs.declared.mesh_end.MeshEnd.{MeshEnd}
 use Rattle.link.specs.Faults.{joins, IsUnsent}
-use Rattle.link.specs.Held.{Held, seen, only_to, WaitsTowards}
+use Rattle.link.specs.MeshState.{MeshState, seen, only_to, WaitsTowards}
 
 module _ {L : Type 0} where
   -- the node whose end it is
@@ -14,7 +14,7 @@ module _ {L : Type 0} where
   node_of e = e.node
 
   -- the mesh as it is now
-  abbrev pub mesh_of : MeshEnd L → Held L
+  abbrev pub mesh_of : MeshEnd L → MeshState L
   mesh_of e = e.mesh.now
 
   -- which mesh is lent

@@ -2,7 +2,7 @@
 use Rattle.std.specs.Prelude.{ℕ, Bool, true, false, ◌≡◌, ◌≤◌, ◌<◌, ◌==◌, ◌&&◌, Some, List, [], ◌∷◌, ◌++◌, All, length, map, if◌then◌else◌}
 use Rattle.std.specs.List.{slice_get}
 use Rattle.protocol_model.specs.Links.{Links, no_letters, posted, taken, closed_out}
-use Rattle.link.specs.Held.{only_to}
+use Rattle.link.specs.MeshState.{only_to}
 use Rattle.link.specs.Reopening.{reopened}
 use Rattle.link.specs.Rule.{Begins}
 

@@ -1,7 +1,7 @@
 //! The links between the nodes of a cluster.
 ghost use Rattle.std.specs.Prelude.{ℕ, ◌≡◌, ◌==◌, ◌↔◌, ◌<◌, ◌+◌, ◌*◌, [], length, slice_index_or, if◌then◌else◌, All, IfOk, IsTrue};
 ghost use Rattle.std.specs.List.Sorted.{IsStrictlyIncreasing};
-ghost use Rattle.link.specs.Held.{place};
+ghost use Rattle.link.specs.MeshState.{place};
 
 use crate::faults::{LinkFault, Unsent};
 use crate::link::Link;
@@ -19,9 +19,9 @@ pub struct Mesh<L> {
 }
 
 impl<L> Model for Mesh<L> {
-    ghost use Rattle.link.specs.Held.{Held, IsWhole};
+    ghost use Rattle.link.specs.MeshState.{MeshState, IsWhole};
 
-    ghost Value = { Held L };
+    ghost Value = { MeshState L };
 
     ghost view = { λ m. record { nodes = m.nodes.items; links = m.links.items; closed = m.closed } };
 
@@ -89,7 +89,7 @@ impl<L: Drop> Mesh<L> {
     ghost use Rattle.std.specs.Option.{option_copied};
     ghost use Rattle.std.specs.List.Sorted.{IsStrictlyIncreasing};
     ghost use Rattle.protocol_model.specs.Links.{no_letters, posted, taken, closed_out, is_nil};
-    ghost use Rattle.link.specs.Held.{place, has, seen, only_to, node_at, from_of, to_of, IsWithin, WaitsFrom, WaitsFirst, WaitsFirstOn, WaitsTowards};
+    ghost use Rattle.link.specs.MeshState.{place, has, seen, only_to, node_at, from_of, to_of, IsWithin, WaitsFrom, WaitsFirst, WaitsFirstOn, WaitsTowards};
     ghost use Rattle.link.specs.Faults.{joins, IsLinkOf, IsUnsent, IsUndelivered, IsStranger};
     ghost use Rattle.link.specs.Reopening.{reopened};
 

@@ -19,7 +19,7 @@ impl<L: Drop> Mesh<L> {
     ghost use Rattle.std.specs.Borrow.{RestsIfErr};
     ghost use Rattle.link.specs.contracts.mesh.Mesh.{the_row};
     ghost use Rattle.link.specs.Faults.{IsStranger};
-    ghost use Rattle.link.specs.Held.{has};
+    ghost use Rattle.link.specs.MeshState.{has};
     ghost use Rattle.link.specs.MeshEnds.{node_of, mesh_of, lender_of};
 
     /// Lends the mesh as one node's end of it.

@@ -7,17 +7,17 @@ use Rattle.std.specs.Map.{values_of, lookup, remove_entry}
 use Rattle.std.proofs.lemmas.List.Elements.{All-weaker, All-contains_itself}
 use Rattle.std.proofs.lemmas.Map.Views.{All-values-insert_entry, All-map-remove_entry, IfSome-lookup_from_All}
 use Rattle.lock_calls.specs.declared.call.LockCall.{LockCall}
-use Rattle.lock_calls.specs.Held.{Held}
+use Rattle.lock_calls.specs.LockCallsState.{LockCallsState}
 
 -- each call is among its list
 pub among_itself : (cs : List LockCall) → All (IsAmong cs) cs
 among_itself cs =
     All-weaker (Contains cs) (IsAmong cs) (λ c m. (m.0, (m.1, sym m.2))) cs (All-contains_itself cs)
 
-module _ (a : ℕ) (es : List (ℕ × LockCall)) (h : Held) (view : record { node = a; calls = values_of es } ≡ h) where
+module _ (a : ℕ) (es : List (ℕ × LockCall)) (h : LockCallsState) (view : record { node = a; calls = values_of es } ≡ h) where
   -- filed calls are among those that they are seen as
   among_seen : All (IsAmong h.calls) (values_of es)
-  among_seen = subst (λ (k : Held). All (IsAmong k.calls) (values_of es)) view (among_itself (values_of es))
+  among_seen = subst (λ (k : LockCallsState). All (IsAmong k.calls) (values_of es)) view (among_itself (values_of es))
 
   pub put_among : (s : ℕ) (c : LockCall) (new : List (ℕ × LockCall)) → new ≡ insert_entry nat_cmp es s c
       → All (λ d. (d ≡ c) ⊎ IsAmong h.calls d) (values_of new)

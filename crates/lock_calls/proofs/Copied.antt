@@ -7,7 +7,7 @@ use Rattle.std.specs.Map.{keys_of, values_of}
 use Rattle.std.proofs.Math.Path.{ap₂}
 use Rattle.std.proofs.lemmas.Map.Entries.{entries_from_clone}
 use Rattle.lock_calls.specs.declared.call.LockCall.{LockCall}
-use Rattle.lock_calls.specs.Held.{Held, IsOf, IsFiled}
+use Rattle.lock_calls.specs.LockCallsState.{LockCallsState, IsOf, IsFiled}
 use Rattle.lock_calls.proofs.Ordered.{Entries}
 
 -- Calls m of node a that are cloned one by one to n, and the node, which is copied to b
@@ -22,8 +22,8 @@ module _ (b a : ℕ) (same : b ≡ a) (n m : BTreeMap ℕ LockCall) (cloned : Is
     rising = subst (λ (es : Entries). IsStrictlySortedBy nat_cmp (keys_of es)) (sym entries) filed.rising;
   }
 
-  pub copied_view : (h : Held) → record { node = a; calls = values_of m.entries } ≡ h
+  pub copied_view : (h : LockCallsState) → record { node = a; calls = values_of m.entries } ≡ h
       → record { node = b; calls = values_of n.entries } ≡ h
   copied_view h view =
-      ap₂ (λ (k : ℕ) (es : Entries). let kept : Held = record { node = k; calls = values_of es } in kept) same entries
+      ap₂ (λ (k : ℕ) (es : Entries). let kept : LockCallsState = record { node = k; calls = values_of es } in kept) same entries
       ∙ view

@@ -16,7 +16,7 @@ use Rattle.protocol_model.specs.Node.{LockCall as AnyCall, call_of, put_call, dr
 use Rattle.lock_calls.specs.declared.call.LockCall.{LockCall}
 use Rattle.protocol_model.specs.Event.{is_waiting_call}
 use Rattle.lock_calls.specs.Calls.{as_call, phase_of}
-use Rattle.lock_calls.specs.Held.{Held, seen, IsOf}
+use Rattle.lock_calls.specs.LockCallsState.{LockCallsState, seen, IsOf}
 use Rattle.lock_calls.proofs.Ordered.{Entries, calls_in, less_than}
 
 -- the process of node a that has this serial
@@ -193,18 +193,18 @@ same_node a b h = elim (cases_eq b a) [
 ]
 
 -- What the filed calls are seen as, and what is asked of a process that is seen as p
-module _ (a : ℕ) (es : Entries) (h : Held) (q p : Process)
+module _ (a : ℕ) (es : Entries) (h : LockCallsState) (q p : Process)
     (view : record { node = a; calls = values_of es } ≡ h) (process : q ≡ p) (of : All (IsOf a) es) where
   -- the calls of another node's processes
   pub call_of-other : true ≡ not (q.node == a) → call_of p (seen h) ≡ None
   call_of-other other =
-      subst (λ (k : Held). call_of p (seen k) ≡ None) view
+      subst (λ (k : LockCallsState). call_of p (seen k) ≡ None) view
       (subst (λ (r : Process). call_of r (calls_in es) ≡ None) process
       (call_of-elsewhere a q es of (other_node a q.node other)))
 
   pub drop_call-other : true ≡ not (q.node == a) → drop_call p (seen h) ≡ seen h
   drop_call-other other =
-      subst (λ (k : Held). drop_call p (seen k) ≡ seen k) view
+      subst (λ (k : LockCallsState). drop_call p (seen k) ≡ seen k) view
       (subst (λ (r : Process). drop_call r (calls_in es) ≡ calls_in es) process
       (drop_call-elsewhere a q es of (other_node a q.node other)))
 
@@ -215,13 +215,13 @@ module _ (a : ℕ) (es : Entries) (h : Held) (q p : Process)
   pub call_of-own : false ≡ not (q.node == a)
       → option_map as_call (lookup (is_at (nat_cmp q.serial)) es) ≡ call_of p (seen h)
   call_of-own same =
-      subst (λ (k : Held). option_map as_call (lookup (is_at (nat_cmp q.serial)) es) ≡ call_of p (seen k)) view
+      subst (λ (k : LockCallsState). option_map as_call (lookup (is_at (nat_cmp q.serial)) es) ≡ call_of p (seen k)) view
       (call_of-filed a q.serial es of ∙ ap (λ (r : Process). call_of r (calls_in es)) (own same))
 
   pub drop_call-own : IsStrictlySortedBy nat_cmp (keys_of es) → false ≡ not (q.node == a)
       → calls_in (remove_entry (is_at (nat_cmp q.serial)) es) ≡ drop_call p (seen h)
   drop_call-own rising same =
-      subst (λ (k : Held). calls_in (remove_entry (is_at (nat_cmp q.serial)) es) ≡ drop_call p (seen k)) view
+      subst (λ (k : LockCallsState). calls_in (remove_entry (is_at (nat_cmp q.serial)) es) ≡ drop_call p (seen k)) view
       (drop_call-filed a q.serial es of rising ∙ ap (λ (r : Process). drop_call r (calls_in es)) (own same))
 
 -- some call waits, as the protocol has it
@@ -231,12 +231,12 @@ any_seen [] = refl
 any_seen (c ∷ cs) = ap (λ (b : Bool). is_waiting_call (phase_of c.phase) || b) (any_seen cs)
 
 -- What the filed calls are seen as, and a call of a process of the same node that is put under its serial
-module _ (a s : ℕ) (es : Entries) (h : Held) (c : LockCall)
+module _ (a s : ℕ) (es : Entries) (h : LockCallsState) (c : LockCall)
     (view : record { node = a; calls = values_of es } ≡ h) (under : s ≡ c.holder.serial) (of : All (IsOf a) es)
     (own : c.holder.node ≡ h.node) where
   holder_is : process_at a s ≡ c.holder
   holder_is =
-      ap (λ (n : ℕ). process_at n s) (ap (λ (k : Held). k.node) view ∙ sym own)
+      ap (λ (n : ℕ). process_at n s) (ap (λ (k : LockCallsState). k.node) view ∙ sym own)
       ∙ ap (λ (k : ℕ). record c.holder { serial = k }) under
 
   pub filed-put : 0 < c.holder.serial → All (IsOf a) (insert_entry nat_cmp es s c)
@@ -245,10 +245,10 @@ module _ (a s : ℕ) (es : Entries) (h : Held) (c : LockCall)
   pub put_call-own : calls_in (insert_entry nat_cmp es s c) ≡ put_call (as_call c) (seen h)
   put_call-own =
       subst (λ (k : ℕ). calls_in (insert_entry nat_cmp es k c) ≡ put_call (as_call c) (seen h)) (sym under)
-      (put_call-filed a c es of ∙ ap (λ (k : Held). put_call (as_call c) (seen k)) view)
+      (put_call-filed a c es of ∙ ap (λ (k : LockCallsState). put_call (as_call c) (seen k)) view)
 
   pub call_of-absent : lookup (is_at (nat_cmp s)) es ≡ None → call_of c.holder (seen h) ≡ None
   call_of-absent absent =
-      subst (λ (k : Held). call_of c.holder (seen k) ≡ None) view
+      subst (λ (k : LockCallsState). call_of c.holder (seen k) ≡ None) view
       (subst (λ (p : Process). call_of p (calls_in es) ≡ None) holder_is
       (sym (call_of-filed a s es of) ∙ ap (option_map as_call) absent))

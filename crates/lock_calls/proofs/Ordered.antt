@@ -13,7 +13,7 @@ use Rattle.registry_model.specs.Process.{Process}
 use Rattle.protocol_model.specs.Node.{LockCall as AnyCall}
 use Rattle.lock_calls.specs.declared.call.LockCall.{LockCall}
 use Rattle.lock_calls.specs.Calls.{as_call}
-use Rattle.lock_calls.specs.Held.{Held, seen, IsOf, AreOrdered}
+use Rattle.lock_calls.specs.LockCallsState.{LockCallsState, seen, IsOf, AreOrdered}
 
 -- calls under serials
 abbrev pub Entries : Type 0
@@ -55,9 +55,9 @@ rising_in a (e ∷ es) of rising =
     (calls_in es) (greater a e.0 es (All-tail (IsOf a) e es of) (sorted_head nat_cmp e.0 (keys_of es) rising)))
     (rising_in a es (All-tail (IsOf a) e es of) (sorted_tail nat_cmp e.0 (keys_of es) rising))
 
-pub ordered_in : (a : ℕ) (es : Entries) (h : Held) → record { node = a; calls = values_of es } ≡ h
+pub ordered_in : (a : ℕ) (es : Entries) (h : LockCallsState) → record { node = a; calls = values_of es } ≡ h
     → All (IsOf a) es → IsStrictlySortedBy nat_cmp (keys_of es) → AreOrdered h.node (seen h)
-ordered_in a es h view of rising = subst (λ (k : Held). AreOrdered k.node (seen k)) view (record {
+ordered_in a es h view of rising = subst (λ (k : LockCallsState). AreOrdered k.node (seen k)) view (record {
   own = All-calls_in (λ c. c.holder.node ≡ a) a es (λ e i. ap (λ (p : Process). p.node) i.0) of;
   live = All-calls_in (λ c. 0 < c.holder.serial) a es
       (λ e i. omega (arith, i.1, ap (λ (p : Process). p.serial) i.0)) of;

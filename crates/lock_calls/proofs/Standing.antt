@@ -18,7 +18,7 @@ use Rattle.lock_calls.specs.declared.call.LockCall.{LockCall}
 use Rattle.lock_calls.specs.declared.call.CallPhase.{CallPhase}
 use Rattle.lock_calls.specs.declared.call.CallPhase.TheVariants.{Asking, Waiting, Deleting}
 use Rattle.lock_calls.specs.Calls.{as_call, phase_of}
-use Rattle.lock_calls.specs.Held.{Held, seen, IsOf, IsFiled}
+use Rattle.lock_calls.specs.LockCallsState.{LockCallsState, seen, IsOf, IsFiled}
 use Rattle.lock_calls.specs.Standing.{becomes, given_up, with_one_less}
 use Rattle.lock_calls.proofs.Ordered.{Entries, calls_in}
 use Rattle.lock_calls.proofs.Filed.{at_is, call_of-other, call_of-own, filed-put, put_call-own, written-put}
@@ -60,7 +60,7 @@ found_of a s d (e ∷ es) of found =
     go false here is rest = rest is
 
 -- What the calls es of node a are seen as, and what is asked of a process that is seen as p, whose call changes so
-module _ (a : ℕ) (es : Entries) (h : Held) (q p : Process) (change : AnyCall → AnyCall)
+module _ (a : ℕ) (es : Entries) (h : LockCallsState) (q p : Process) (change : AnyCall → AnyCall)
     (view : record { node = a; calls = values_of es } ≡ h) (process : q ≡ p) (of : All (IsOf a) es) where
   -- a process of another node has no call
   pub becomes-other : true ≡ not (q.node == a) → seen h ≡ becomes change (call_of p (seen h)) (seen h)
@@ -90,7 +90,7 @@ module _ (a : ℕ) (es : Entries) (h : Held) (q p : Process) (change : AnyCall �
     under = ap (λ (x : Process). x.serial) (sym owner)
 
     own : c.holder.node ≡ h.node
-    own = ap (λ (x : Process). x.node) owner ∙ ap (λ (k : Held). k.node) view
+    own = ap (λ (x : Process). x.node) owner ∙ ap (λ (k : LockCallsState). k.node) view
 
     pub becomes-filed : (m : BTreeMap ℕ LockCall) → m.entries ≡ new → IsFiled a m
     becomes-filed m is = record {

@@ -2,7 +2,7 @@
 use Rattle.protocol_model.specs.Node.{LockPhase, LockCall as AnyCall}
 use Rattle.term.specs.NodeSets.{set_of}
 use Rattle.lock_table.specs.Ids.{id_of}
-use Rattle.locker.specs.Held.{seen}
+use Rattle.locker.specs.RoundState.{seen}
 use Rattle.transaction.specs.Calls.{target_of, retries_of}
 use Rattle.lock_calls.specs.declared.call.CallPhase.{CallPhase}
 use Rattle.lock_calls.specs.declared.call.CallPhase.TheVariants.{Asking, Waiting, Deleting}

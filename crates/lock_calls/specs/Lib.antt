@@ -1,3 +1,3 @@
 pub mod Calls
-pub mod Held
+pub mod LockCallsState
 pub mod Standing

@@ -4,9 +4,9 @@ ghost use Rattle.std.specs.List.{list_any, IsAmong};
 ghost use Rattle.std.specs.Option.{option_map, option_copied};
 ghost use Rattle.protocol_model.specs.Node.{LockPhase, call_of, put_call, drop_call};
 ghost use Rattle.protocol_model.specs.Event.{is_waiting_call};
-ghost use Rattle.locker.specs.Held.{seen as seen_round};
+ghost use Rattle.locker.specs.RoundState.{seen as seen_round};
 ghost use Rattle.lock_calls.specs.Calls.{as_call};
-ghost use Rattle.lock_calls.specs.Held.{none_at, seen, AreOrdered};
+ghost use Rattle.lock_calls.specs.LockCallsState.{none_at, seen, AreOrdered};
 ghost use Rattle.lock_calls.specs.Standing.{stands_by, asks_again, answered, lost, given_up};
 
 use crate::call::LockCall;
@@ -27,9 +27,9 @@ pub struct LockCalls {
 
 impl Model for LockCalls {
     ghost use Rattle.std.specs.BTreeMap.{values};
-    ghost use Rattle.lock_calls.specs.Held.{Held, IsFiled};
+    ghost use Rattle.lock_calls.specs.LockCallsState.{LockCallsState, IsFiled};
 
-    ghost Value = { Held };
+    ghost Value = { LockCallsState };
 
     ghost view = { λ l. record { node = l.node; calls = values l.calls } };
 

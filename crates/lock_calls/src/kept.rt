@@ -1,7 +1,7 @@
 //! Calls as they are kept.
 ghost use Rattle.std.specs.Prelude.{◌≡◌, IfOk};
 ghost use Rattle.protocol_model.specs.Client.{in_phase};
-ghost use Rattle.locker.specs.Held.{seen};
+ghost use Rattle.locker.specs.RoundState.{seen};
 ghost use Rattle.lock_calls.specs.declared.call.CallPhase.TheVariants.{Waiting};
 ghost use Rattle.lock_calls.specs.Calls.{as_call};
 ghost use Rattle.lock_calls.specs.Standing.{answered, lost, with_one_less, asking_again};

@@ -4,7 +4,7 @@ use Rattle.std.specs.List.{list_any, find}
 use Rattle.std.specs.Option.{option_map}
 use Rattle.registry_model.specs.Process.{Process, is_process}
 use Rattle.lock_lines.specs.declared.request.Request.{Request}
-use Rattle.lock_lines.specs.declared.line.LineCall.{LineCall}
+use Rattle.lock_lines.specs.declared.waiting_calls.LineCall.{LineCall}
 use Rattle.lock_lines.specs.Requests.{are_rivals, is_for_more}
 
 -- it came before one that it keeps waiting

@@ -3,12 +3,12 @@
 
 mod bell;
 mod grants;
-mod line;
 mod lines;
 mod request;
+mod waiting_calls;
 
 pub use bell::Bell;
 pub use grants::{Grant, Grants};
-pub use line::Line;
-pub use lines::{LockLines, Turn};
+pub use lines::{LinePlace, LockLines};
 pub use request::Request;
+pub use waiting_calls::WaitingCalls;

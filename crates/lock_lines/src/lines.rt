@@ -1,8 +1,8 @@
 //! The lines of a server, which all its consoles share.
 use crate::bell::Bell;
 use crate::grants::{Grant, Grants};
-use crate::line::Line;
 use crate::request::Request;
+use crate::waiting_calls::WaitingCalls;
 use std::alloc::{AllocError, Global};
 use std::sync::{Arc, Mutex, Wait};
 use term::{Node, NodeSet, Pid};
@@ -14,7 +14,7 @@ const LONGEST_SLEEP: u64 = 100;
 /// What lies under the lock of the lines.
 #[derive(Drop)]
 struct State {
-    line: Line,
+    line: WaitingCalls,
     grants: Grants,
 }
 
@@ -32,12 +32,12 @@ pub struct LockLines {
 
 /// The place of a call in its line.
 #[derive(Drop)]
-pub struct Turn {
+pub struct LinePlace {
     number: u64,
     bell: Arc<Bell, Global>,
 }
 
-impl Turn {
+impl LinePlace {
     /// Sleeps until the turn may have come, and for a tenth of a second at most.
     pub fn rest<R: Wait>(&self, rt: &R) {
         self.bell.sleep(rt, LONGEST_SLEEP);
@@ -83,7 +83,7 @@ fn take_all(grants: &mut Grants, request: &Request, nodes: &[Node]) {
 }
 
 /// Tells who waits for what a process has, as it is dead.
-fn tell_freed_by(grants: &Grants, line: &Line, process: &Pid) {
+fn tell_freed_by(grants: &Grants, line: &WaitingCalls, process: &Pid) {
     for grant in grants.times.keys() {
         if grant.holder == *process {
             line.tell_free(&grant.resource, &NodeSet::one(grant.node.copy()));
@@ -97,27 +97,27 @@ impl LockLines {
         LockLines {
             alloc,
             state: Mutex::new(State {
-                line: Line::new(alloc),
+                line: WaitingCalls::new(alloc),
                 grants: Grants::new(alloc),
             }),
         }
     }
 
     /// A call enters, behind all that wait.
-    pub fn enter<R: Wait>(&self, rt: &R, request: &Request) -> Result<Turn, AllocError> {
+    pub fn enter<R: Wait>(&self, rt: &R, request: &Request) -> Result<LinePlace, AllocError> {
         let bell = Arc::new(self.alloc, Bell::new())?;
         let waiter = Arc::try_clone(&bell)?;
         let mut state = self.state.lock(rt);
         let passes = state.grants.holds(&request.id, &request.nodes);
         let number = state.line.enter(request.copy(), passes, bell)?;
-        Ok(Turn {
+        Ok(LinePlace {
             number,
             bell: waiter,
         })
     }
 
     /// Whether the turn of a call has come. From then on it is told where its lock may be free.
-    pub fn has_come<R: Wait>(&self, rt: &R, turn: &Turn) -> bool {
+    pub fn has_come<R: Wait>(&self, rt: &R, turn: &LinePlace) -> bool {
         let has_come = self.state.lock(rt).line.may_go(turn.number);
         if has_come {
             turn.bell.call();
@@ -126,7 +126,7 @@ impl LockLines {
     }
 
     /// A call leaves, and whose turn has come by that is woken.
-    pub fn leave<R: Wait>(&self, rt: &R, turn: Turn) {
+    pub fn leave<R: Wait>(&self, rt: &R, turn: LinePlace) {
         let mut state = self.state.lock(rt);
         state.line.leave(turn.number);
         state.line.ring();

@@ -10,7 +10,7 @@ use Rattle.boss_order.specs.Boss.{boss_of}
 use Rattle.term.proofs.Subsets.{set_of-filter}
 use Rattle.boss_order.proofs.Sets.{is_nil-filter, passes_within, is_empty-within, is_empty-set_of_passing}
 use Rattle.locker.specs.declared.ending.Ending.TheVariants.{Held as IsHeld, GiveBack}
-use Rattle.locker.specs.Held.{Held, IsRound, seen}
+use Rattle.locker.specs.RoundState.{RoundState, IsRound, seen}
 use Rattle.locker.specs.Ends.{granted_by, is_won, end_of, EndsAs}
 use Rattle.locker.proofs.Marks.{asked-seen}
 
@@ -24,7 +24,7 @@ list_all-not p q other (x ∷ xs) = rw (other x) (go (p x) (list_all-not p q oth
     go false e = e
 
 -- a node with a mark of which a test speaks is asked
-module _ (h : Held) (test : Mark → Bool) (out : test protocol.Out ≡ false) where
+module _ (h : RoundState) (test : Mark → Bool) (out : test protocol.Out ≡ false) where
   within : (c : ℕ) → test ((seen h).mark c) ≡ true → set_of h.nodes c ≡ true
   within c e = ap (λ (s : ℕ → Bool). s c) (asked-seen h) ∙ go ((seen h).mark c) e
     where
@@ -33,7 +33,7 @@ module _ (h : Held) (test : Mark → Bool) (out : test protocol.Out ≡ false) w
       go _ e = refl
 
 -- it is won where the protocol's round is held
-is_won-is_held : (h : Held) (members : List ℕ) (n : ℕ) → IsRound h → IsNodeSet members
+is_won-is_held : (h : RoundState) (members : List ℕ) (n : ℕ) → IsRound h → IsNodeSet members
     → All (λ c. c < n) h.nodes → All (λ c. c < n) members → is_won members h ≡ is_held n (set_of members) (seen h)
 is_won-is_held h members n whole set below members_below =
     ap (λ (b : Bool). b && boss && not (list_any refused h.nodes) && not (is_nil (granted_by h))) all_asked
@@ -66,7 +66,7 @@ is_won-is_held h members n whole set below members_below =
         ∙ sym (is_empty-set_of_passing n (λ c. is_out ((seen h).mark c)) members set.rising members_below)
 
 -- how it ends is how the protocol's round ends
-pub EndsAs-end_of : (h : Held) (members : List ℕ) (n : ℕ) → IsRound h → IsNodeSet members
+pub EndsAs-end_of : (h : RoundState) (members : List ℕ) (n : ℕ) → IsRound h → IsNodeSet members
     → All (λ c. c < n) h.nodes → All (λ c. c < n) members
     → EndsAs (end_of members h) (protocol.ending n (set_of members) (seen h))
 EndsAs-end_of h members n whole set below members_below =

@@ -13,7 +13,7 @@ use Rattle.boss_order.specs.Boss.{boss_of, others_of}
 use Rattle.boss_order.proofs.Others.{set_of-others}
 use Rattle.locker.specs.declared.mark.Mark.{Mark}
 use Rattle.locker.specs.declared.mark.Mark.TheVariants.{Later, Owes, Granted, Refused, Lost, Gone}
-use Rattle.locker.specs.Held.{Held, IsRound, as_mark, place, mark_at, seen}
+use Rattle.locker.specs.RoundState.{RoundState, IsRound, as_mark, place, mark_at, seen}
 use Rattle.term.proofs.NodeSets.{position-there}
 use Rattle.term.proofs.NodePlaces.{place-Some, one_place}
 use Rattle.locker.proofs.Places.{set_of-place, place-boss}
@@ -28,7 +28,7 @@ is_out-as_mark Lost = refl
 is_out-as_mark Gone = refl
 
 -- the nodes that are asked are those of the list
-pub asked-seen : (h : Held) → set_of h.nodes ≡ protocol.asked (seen h)
+pub asked-seen : (h : RoundState) → set_of h.nodes ≡ protocol.asked (seen h)
 asked-seen h = fun_ext (λ c. set_of-place c h.nodes ∙ go (place c h.nodes))
   where
     go : (p : Option ℕ) → is_some p ≡ not (is_out (mark_at p h.marks))
@@ -36,7 +36,7 @@ asked-seen h = fun_ext (λ c. set_of-place c h.nodes ∙ go (place c h.nodes))
     go (Some i) = sym (ap not (is_out-as_mark (get_or h.marks i Gone)))
 
 -- all but the last are the rest
-pub rest-seen : (h : Held) → IsRound h → set_of (others_of h.nodes) ≡ protocol.rest (seen h)
+pub rest-seen : (h : RoundState) → IsRound h → set_of (others_of h.nodes) ≡ protocol.rest (seen h)
 rest-seen h whole =
     fun_ext (λ c. set_of-others h.nodes whole.set whole.some c
     ∙ ap (λ (s : ℕ → Bool). s c && not (c == boss_of h.nodes)) (asked-seen h))
@@ -47,7 +47,7 @@ pub mark_at-Some : (p : Option ℕ) (i : ℕ) (marks : List Mark) → p ≡ Some
 mark_at-Some p i marks e = ap (λ (q : Option ℕ). mark_at q marks) e
 
 -- the boss's mark is the last
-pub mark_at-boss : (h : Held) → IsRound h
+pub mark_at-boss : (h : RoundState) → IsRound h
     → (seen h).mark (boss_of h.nodes) ≡ as_mark (get_or h.marks (length h.nodes - 1) Gone)
 mark_at-boss h whole = mark_at-Some (place (boss_of h.nodes) h.nodes) (length h.nodes - 1) h.marks
     (place-boss h.nodes whole.set whole.some)
@@ -76,7 +76,7 @@ mark_at-asked_too old new e (Some i) =
     ∙ get_or-map (λ m. asked_too (as_mark m)) old i Gone
 
 -- each node's mark stands at its place
-mark_at-place : (h : Held) → IsRound h → (i : ℕ) → i < length h.nodes
+mark_at-place : (h : RoundState) → IsRound h → (i : ℕ) → i < length h.nodes
     → (seen h).mark (get_or h.nodes i 0) ≡ as_mark (get_or h.marks i Gone)
 mark_at-place h whole i inside = mark_at-Some (place (get_or h.nodes i 0) h.nodes) i h.marks
     (position-there h.nodes i (get_or h.nodes i 0) whole.set.rising (record { inside = inside; is = refl }))
@@ -94,7 +94,7 @@ any_marked q f (x ∷ xs) (m ∷ ms) long is =
     (any_marked q f xs ms (omega (arith, long)) (λ i inside. is (suc i) (omega (arith, inside))))
 
 -- the same of a round's
-pub any_mark : (h : Held) → IsRound h → (q : protocol.Mark → Bool)
+pub any_mark : (h : RoundState) → IsRound h → (q : protocol.Mark → Bool)
     → list_any (λ m. q (as_mark m)) (take (length h.nodes) h.marks) ≡ list_any (λ c. q ((seen h).mark c)) h.nodes
 any_mark h whole q = any_marked q (seen h).mark h.nodes h.marks (omega (arith, whole.set.fits, whole.room))
     (mark_at-place h whole)

@@ -7,7 +7,7 @@ use Rattle.std.proofs.lemmas.Bool.Decides.{nat_tests}
 use Rattle.term.specs.NodeSets.{IsNodeSet, set_of}
 use Rattle.term.proofs.NodeSets.{position-there}
 use Rattle.boss_order.specs.Boss.{boss_of}
-use Rattle.locker.specs.Held.{place}
+use Rattle.locker.specs.RoundState.{place}
 
 -- a test passes somewhere where it has a first place
 first_inside : (p : ℕ → Bool) (xs : List ℕ) → list_any p xs ≡ nat_lt (position_or_len p xs) (length xs)

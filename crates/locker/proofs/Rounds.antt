@@ -15,7 +15,7 @@ use Rattle.boss_order.specs.Boss.{boss_of}
 use Rattle.boss_order.proofs.Sets.{greatest-set_of, is_empty-within}
 use Rattle.locker.specs.declared.mark.Mark.{Mark}
 use Rattle.locker.specs.declared.mark.Mark.TheVariants.{Later, Owes, Granted, Lost, Gone}
-use Rattle.locker.specs.Held.{Held, IsRound, as_mark, place, mark_at, seen, is_settled}
+use Rattle.locker.specs.RoundState.{RoundState, IsRound, as_mark, place, mark_at, seen, is_settled}
 use Rattle.term.proofs.NodePlaces.{place-Some}
 use Rattle.locker.proofs.Places.{set_of-place, place-boss}
 use Rattle.locker.proofs.Marks.{asked-seen, mark_at-Some, mark_at-set, mark_at-asked_too}
@@ -60,7 +60,7 @@ seen-begin nodes is some n below =
         ∙ ap (λ (b : Bool). if b then protocol.Later else protocol.Out) (sym (set_of-place x nodes))
 
 -- a node goes down
-pub seen-down : (h : Held) → IsRound h → (c j : ℕ) (m : Mark) → place c h.nodes ≡ Some j
+pub seen-down : (h : RoundState) → IsRound h → (c j : ℕ) (m : Mark) → place c h.nodes ≡ Some j
     → as_mark m ≡ mark_down (as_mark (get_or h.marks j Gone))
     → seen (record { nodes = h.nodes; marks = set h.marks j m }) ≡ protocol.down c (seen h)
 seen-down h whole c j m e is =
@@ -69,7 +69,7 @@ seen-down h whole c j m e is =
     ∙ ap (at (seen h).mark c) (is ∙ ap mark_down (sym (mark_at-Some (place c h.nodes) j h.marks e))))
 
 -- the boss grants
-pub seen-opened : (h : Held) → IsRound h → (c j : ℕ) (granted : Bool) (m : Mark) (marks : List Mark)
+pub seen-opened : (h : RoundState) → IsRound h → (c j : ℕ) (granted : Bool) (m : Mark) (marks : List Mark)
     → place c h.nodes ≡ Some j
     → opens c granted (seen h) ≡ true → length marks ≡ length h.marks
     → map as_mark marks ≡ map (λ m. asked_too (as_mark m)) h.marks
@@ -93,7 +93,7 @@ seen-opened h whole c j granted m marks e opened long asked is =
     grants false o = cc
 
 -- another answer that is owed
-pub seen-answered : (h : Held) → IsRound h → (c j : ℕ) (granted : Bool) (m : Mark) → place c h.nodes ≡ Some j
+pub seen-answered : (h : RoundState) → IsRound h → (c j : ℕ) (granted : Bool) (m : Mark) → place c h.nodes ≡ Some j
     → opens c granted (seen h) ≡ false → owes (seen h) c ≡ true
     → as_mark m ≡ (if granted then protocol.Granted else protocol.Refused)
     → seen (record { nodes = h.nodes; marks = set h.marks j m }) ≡ protocol.answer c granted (seen h)
@@ -112,7 +112,7 @@ seen-answered h whole c j granted m e opened owed is =
     choose false false o owes = cc
 
 -- an answer that isn't owed
-pub seen-not_owed : (h : Held) (c : ℕ) (granted : Bool) → owes (seen h) c ≡ false
+pub seen-not_owed : (h : RoundState) (c : ℕ) (granted : Bool) → owes (seen h) c ≡ false
     → seen h ≡ protocol.answer c granted (seen h)
 seen-not_owed h c granted owed = choose granted (c == boss_of h.nodes) (owes (seen h) c) owed
   where
@@ -127,7 +127,7 @@ seen-not_owed h c granted owed = choose granted (c == boss_of h.nodes) (owes (se
     choose false b false e = refl
 
 -- the boss's mark, read as the program's
-pub has_granted-boss : (h : Held) (m : Mark) → as_mark m ≡ (seen h).mark (boss_of h.nodes) → (m ≡ Granted) ⊎ (m ≡ Lost)
+pub has_granted-boss : (h : RoundState) (m : Mark) → as_mark m ≡ (seen h).mark (boss_of h.nodes) → (m ≡ Granted) ⊎ (m ≡ Lost)
     → has_granted ((seen h).mark (boss_of h.nodes)) ≡ true
 has_granted-boss h m is which = ap has_granted (sym is) ∙ elim which [
   | inl e ↦ ap (λ (m : Mark). has_granted (as_mark m)) e
@@ -135,7 +135,7 @@ has_granted-boss h m is which = ap has_granted (sym is) ∙ elim which [
 ]
 
 -- once the boss has granted, the rest are asked
-pub asked_now-rest : (h : Held) → has_granted ((seen h).mark (boss_of h.nodes)) ≡ true
+pub asked_now-rest : (h : RoundState) → has_granted ((seen h).mark (boss_of h.nodes)) ≡ true
     → protocol.rest (seen h) ≡ protocol.asked_now (seen h)
 asked_now-rest h granted = fun_ext (λ c. ap
     (λ (b : Bool). if b then protocol.rest (seen h) c else
@@ -143,7 +143,7 @@ asked_now-rest h granted = fun_ext (λ c. ap
     (sym granted))
 
 -- once the boss has granted, the round is over where nobody owes an answer
-pub is_settled-granted : (h : Held) → has_granted ((seen h).mark (boss_of h.nodes)) ≡ true
+pub is_settled-granted : (h : RoundState) → has_granted ((seen h).mark (boss_of h.nodes)) ≡ true
     → not (list_any (owes (seen h)) h.nodes) ≡ is_settled h
 is_settled-granted h granted = go ((seen h).mark (boss_of h.nodes)) granted (not (list_any (owes (seen h)) h.nodes))
   where
@@ -153,7 +153,7 @@ is_settled-granted h granted = go ((seen h).mark (boss_of h.nodes)) granted (not
     go _ e b = cc
 
 -- a node that owes an answer is asked
-owes-asked : (h : Held) (c : ℕ) → owes (seen h) c ≡ true → set_of h.nodes c ≡ true
+owes-asked : (h : RoundState) (c : ℕ) → owes (seen h) c ≡ true → set_of h.nodes c ≡ true
 owes-asked h c e = ap (λ (s : ℕ → Bool). s c) (asked-seen h) ∙ go ((seen h).mark c) e
   where
     go : (m : protocol.Mark) → is_owes m ≡ true → not (is_out m) ≡ true
@@ -161,7 +161,7 @@ owes-asked h c e = ap (λ (s : ℕ → Bool). s c) (asked-seen h) ∙ go ((seen 
     go _ e = cc
 
 -- it is known how the round ends where it is over
-pub is_over-is_settled : (h : Held) → IsRound h → (n : ℕ) → All (λ c. c < n) h.nodes
+pub is_over-is_settled : (h : RoundState) → IsRound h → (n : ℕ) → All (λ c. c < n) h.nodes
     → is_settled h ≡ protocol.is_over n (seen h)
 is_over-is_settled h whole n below = ap
     (λ (b : Bool). is_refused ((seen h).mark (boss_of h.nodes)) || is_gone ((seen h).mark (boss_of h.nodes))

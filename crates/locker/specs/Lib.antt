@@ -1,3 +1,3 @@
 pub mod Ends
-pub mod Held
+pub mod RoundState
 pub mod Laws

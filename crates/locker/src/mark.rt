@@ -2,7 +2,7 @@
 ghost use Rattle.std.specs.Prelude.{◌≡◌, if◌then◌else◌};
 ghost use Rattle.protocol_model.specs.Round as protocol;
 ghost use Rattle.protocol_model.specs.Round.{asked_too, mark_down, has_granted};
-ghost use Rattle.locker.specs.Held.{as_mark};
+ghost use Rattle.locker.specs.RoundState.{as_mark};
 
 /// What a round knows of a node that it asks.
 #[derive(Clone, Copy)]

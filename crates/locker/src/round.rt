@@ -2,7 +2,7 @@
 ghost use Rattle.std.specs.Prelude.{◌≡◌, map};
 ghost use Rattle.std.specs.List.{list_any};
 ghost use Rattle.protocol_model.specs.Round.{asked_too, is_owes, is_refused};
-ghost use Rattle.locker.specs.Held.{as_mark};
+ghost use Rattle.locker.specs.RoundState.{as_mark};
 
 use crate::ending::Ending;
 use crate::mark::Mark;
@@ -18,9 +18,9 @@ pub struct Round {
 }
 
 impl Model for Round {
-    ghost use Rattle.locker.specs.Held.{Held, IsRound};
+    ghost use Rattle.locker.specs.RoundState.{RoundState, IsRound};
 
-    ghost Value = { Held };
+    ghost Value = { RoundState };
 
     ghost view = { λ r. record { nodes = r.nodes; marks = r.marks } };
 
@@ -56,7 +56,7 @@ impl Round {
     ghost use Rattle.protocol_model.specs.Round as protocol;
     ghost use Rattle.term.specs.NodeSets.{IsNodeSet, set_of};
     ghost use Rattle.boss_order.specs.Boss.{boss_of, others_of};
-    ghost use Rattle.locker.specs.Held.{IsRound, as_mark, as_known, place, seen, is_settled};
+    ghost use Rattle.locker.specs.RoundState.{IsRound, as_mark, as_known, place, seen, is_settled};
     ghost use Rattle.locker.specs.Ends.{granted_by, is_won, end_of, EndsAs};
 
     /// A round over these nodes, of which the boss alone is asked at first.

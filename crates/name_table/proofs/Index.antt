@@ -7,7 +7,7 @@ use Rattle.std.proofs.lemmas.Bool.{cases_eq, cases_order, eq-eqb, ne_eqb, lt-ltb
 use Rattle.registry_model.specs.Process.{Text, Process, is_process}
 use Rattle.registry_model.specs.Table.{Pair, Table, is_below, is_rising, get, entry, put, remove, strike, without}
 use Rattle.registry_model.proofs.Tables.{is_rising-parts, is_rising-put, is_rising-remove, is_rising-strike, is_rising-without, get-below, get-entry, owner_in, entry-put, entry-remove, entry-strike, entry-without, get-front, get-behind, if_kept, if_passes, same_table}
-use Rattle.name_table.specs.declared.change.Entry.{Entry}
+use Rattle.name_table.specs.declared.change.Registration.{Registration}
 use Rattle.name_table.specs.Changes.{pair_under}
 use Rattle.name_table.specs.Owners.{name_of}
 use Rattle.name_table.specs.Index.{Owners, standing, owner_under, owner_of, pair_of, table_of, is_owner}
@@ -24,7 +24,7 @@ entry-table_of (e ∷ es) y = entry-put (pair_of e) (table_of es) y ∙ (elim (c
 pub get-table_of : (es : Owners) (y : Text) → get y (table_of es) ≡ owner_of y es
 get-table_of es y = get-entry y (table_of es) ∙ ap owner_in (entry-table_of es y) ∙ go (standing y es)
   where
-    go : (o : Option Entry) → owner_in (pair_under y o) ≡ owner_under o
+    go : (o : Option Registration) → owner_in (pair_under y o) ≡ owner_under o
     go None = refl
     go (Some e) = refl
 
@@ -39,7 +39,7 @@ pub table_told : (es : Owners) (t : Table) → is_rising t ≡ true →
 table_told es t r h = same_table (table_of es) t (is_rising-table_of es) r (λ y. entry-table_of es y ∙ h y)
 
 -- one more name, or something else under one
-pub table-put : (old new : Owners) (x : Text) (e : Entry) →
+pub table-put : (old new : Owners) (x : Text) (e : Registration) →
     ((y : Text) → standing y new ≡ (if x == y then Some e else standing y old)) →
     table_of new ≡ put (pair_of (x, e)) (table_of old)
 table-put old new x e h =
@@ -77,12 +77,12 @@ table-strike old new p h =
     (λ y. ap (pair_under y) (h y) ∙ kept y (standing y old) ∙ sym (entry-strike p (table_of old) (is_rising-table_of old) y
     ∙ ap (if_passes (λ e. not (is_process e.owner p))) (entry-table_of old y)))
   where
-    by : (y : Text) (e : Entry) (b : Bool) →
+    by : (y : Text) (e : Registration) (b : Bool) →
         pair_under y (if b then None else Some e) ≡ (if not b then Some (pair_of (y, e)) else None)
     by y e true = refl
     by y e false = refl
 
-    kept : (y : Text) (o : Option Entry) → pair_under y (if is_owner p (owner_under o) then None else o)
+    kept : (y : Text) (o : Option Registration) → pair_under y (if is_owner p (owner_under o) then None else o)
         ≡ if_passes (λ e. not (is_process e.owner p)) (pair_under y o)
     kept y None = refl
     kept y (Some e) = by y e (is_process e.owner p)
@@ -105,7 +105,7 @@ standing-absent_filter ok x (e ∷ es) h = go (ok e.1.owner) (standing-absent_fi
     go false k = k
 
 -- what stands under a name, where its owner passes
-abbrev pub if_left : (Process → Bool) → Option Entry → Option Entry
+abbrev pub if_left : (Process → Bool) → Option Registration → Option Registration
 if_left ok None = None
 if_left ok (Some e) = if ok e.owner then Some e else None
 
@@ -138,11 +138,11 @@ pub owner_of-filter : (ok : Process → Bool) (es : Owners) → IsDistinct (λ x
     owner_of y (filter (λ e. ok e.1.owner) es) ≡ if_kept ok (owner_of y es)
 owner_of-filter ok es d y = ap owner_under (standing-filter ok es d y) ∙ go (standing y es)
   where
-    by : (e : Entry) (b : Bool) → owner_under (if b then Some e else None) ≡ (if b then Some e.owner else None)
+    by : (e : Registration) (b : Bool) → owner_under (if b then Some e else None) ≡ (if b then Some e.owner else None)
     by e true = refl
     by e false = refl
 
-    go : (o : Option Entry) → owner_under (if_left ok o) ≡ if_kept ok (owner_under o)
+    go : (o : Option Registration) → owner_under (if_left ok o) ≡ if_kept ok (owner_under o)
     go None = refl
     go (Some e) = by e (ok e.owner)
 
@@ -156,12 +156,12 @@ table-without es d u =
     ∙ sym (entry-without (λ n. n == d) (table_of es) (is_rising-table_of es) y
     ∙ ap (if_passes (λ e. not (e.owner.node == d))) (entry-table_of es y)))
   where
-    by : (y : Text) (e : Entry) (b : Bool) →
+    by : (y : Text) (e : Registration) (b : Bool) →
         pair_under y (if b then Some e else None) ≡ (if b then Some (pair_of (y, e)) else None)
     by y e true = refl
     by y e false = refl
 
-    kept : (y : Text) (o : Option Entry) →
+    kept : (y : Text) (o : Option Registration) →
         pair_under y (if_left (λ q. not (q.node == d)) o) ≡ if_passes (λ e. not (e.owner.node == d)) (pair_under y o)
     kept y None = refl
     kept y (Some e) = by y e (not (e.owner.node == d))

@@ -9,7 +9,7 @@ use Rattle.std.proofs.Math.Path.{ap₂}
 use Rattle.std.proofs.lemmas.Bool.{eqb-true}
 use Rattle.std.proofs.lemmas.Map.Steps.{set_value_same}
 use Rattle.registry_model.specs.Process.{Text, Process, is_process}
-use Rattle.name_table.specs.declared.change.Entry.{Entry}
+use Rattle.name_table.specs.declared.change.Registration.{Registration}
 use Rattle.name_table.specs.Index.{Owners, Owned, standing, names_of, is_among, HaveNames, Lists, Unlists, Gains, Loses}
 use Rattle.name_table.proofs.Agreement.{Writes, some_from_contains, lists_by, unlists_by, have_names}
 use Rattle.name_table.proofs.NameSets.{is_at-name, gained}
@@ -93,7 +93,7 @@ pub forget_one : (names later : BTreeSet Text) (old new : Owners) (x : Text) →
     (if contains nat_cmp later y then None else standing y new)
     ≡ (if contains nat_cmp names y then None else standing y old)
 forget_one names later old new x h u w y =
-    ap₂ (λ (b : Bool) (o : Option Entry). if b then None else o)
+    ap₂ (λ (b : Bool) (o : Option Registration). if b then None else o)
     (u y) (w y) ∙ go (x == y) refl
   where
     go : (b : Bool) → (x == y) ≡ b →

@@ -4,18 +4,18 @@ use Rattle.std.specs.Prelude.{if◌then◌else◌}
 use Rattle.std.proofs.Math.Path.{ap₂}
 use Rattle.registry_model.specs.Process.{Text, Process, is_process}
 use Rattle.registry_model.proofs.Lists.{is_process-true}
-use Rattle.name_table.specs.declared.change.Entry.{Entry}
+use Rattle.name_table.specs.declared.change.Registration.{Registration}
 use Rattle.name_table.specs.Index.{Owners, Owned, standing, owner_under, owner_of, is_owner, HaveNames, Agrees, Lists}
 use Rattle.name_table.proofs.Agreement.{agrees-put}
 
 -- what stands under a name after an entry is put into the same owners
-pub standing-put : (old same new : Owners) (x z : Text) (e f : Entry) → same ≡ old → z ≡ x → f ≡ e →
+pub standing-put : (old same new : Owners) (x z : Text) (e f : Registration) → same ≡ old → z ≡ x → f ≡ e →
     ((y : Text) → standing y new ≡ (if z == y then Some f else standing y same)) → (y : Text) →
     standing y new ≡ (if x == y then Some e else standing y old)
 standing-put old same new x z e f i j k h y = h y ∙ rw (i, j, k) refl
 
 -- and who has it
-pub owner_of-put : (old new : Owners) (x : Text) (e : Entry) →
+pub owner_of-put : (old new : Owners) (x : Text) (e : Registration) →
     ((y : Text) → standing y new ≡ (if x == y then Some e else standing y old)) → (y : Text) →
     owner_of y new ≡ (if x == y then Some e.owner else owner_of y old)
 owner_of-put old new x e h y = ap owner_under (h y) ∙ go (x == y)

@@ -10,7 +10,7 @@ use Rattle.std.proofs.lemmas.Map.Keys.{IsDistinct-IsPermutation}
 use Rattle.std.proofs.lemmas.Map.Views.{Contains-from_lookup, lookup-from_Contains}
 use Rattle.registry_model.specs.Process.{Text}
 use Rattle.registry_model.specs.Table.{Pair, Table, entry, is_rising, names}
-use Rattle.name_table.specs.declared.change.Entry.{Entry}
+use Rattle.name_table.specs.declared.change.Registration.{Registration}
 use Rattle.name_table.specs.Changes.{pair_under}
 use Rattle.name_table.specs.Index.{Owners, standing, pair_of, table_of, pairs_of}
 use Rattle.name_table.proofs.Index.{table_told}
@@ -25,7 +25,7 @@ entry-pairs_of (e ∷ es) y = elim (cases_eq e.0 y) [
 ]
 
 -- names that don't fall, of which no two are the same, rise
-is_rising-pairs_of : {X : Type 0} (as_entry : X → Text × Entry) (xs : List X) →
+is_rising-pairs_of : {X : Type 0} (as_entry : X → Text × Registration) (xs : List X) →
     IsNonDecreasingBy (λ x. (as_entry x).0) xs → IsDistinct (λ x y. x == y) (keys_of (map as_entry xs)) →
     is_rising (pairs_of (map as_entry xs)) ≡ true
 unfolding IsDistinct
@@ -46,21 +46,21 @@ standing-permutation : (es fs : Owners) → IsPermutation es fs → IsDistinct (
     IsDistinct (λ x y. x == y) (keys_of fs) → (y : Text) → standing y es ≡ standing y fs
 standing-permutation es fs p d e y = go (standing y es) refl
   where
-    there : (a b : Owners) → IsPermutation a b → IsDistinct (λ x z. x == z) (keys_of b) → (f : Entry) →
+    there : (a b : Owners) → IsPermutation a b → IsDistinct (λ x z. x == z) (keys_of b) → (f : Registration) →
         standing y a ≡ Some f → standing y b ≡ Some f
     there a b m n f k = lookup-from_Contains nat_eq_equiv y f b n
         (Contains-permutation a b (y, f) m (Contains-from_lookup {eq = λ x z. x == z} (λ x z. eqb-true x z) y f a k))
 
-    none : (o : Option Entry) → standing y fs ≡ o → standing y es ≡ None → o ≡ None
+    none : (o : Option Registration) → standing y fs ≡ o → standing y es ≡ None → o ≡ None
     none None i k = refl
     none (Some f) i k = absurd (let m = there fs es (IsPermutation-sym es fs p) d f i in cc)
 
-    go : (o : Option Entry) → standing y es ≡ o → o ≡ standing y fs
+    go : (o : Option Registration) → standing y es ≡ o → o ≡ standing y fs
     go None k = sym (none (standing y fs) refl k)
     go (Some f) k = sym (there es fs p e f k)
 
 -- the entries of a table in another order, in which names don't fall, make its pairs
-pub sorted-table_of : {X : Type 0} (as_entry : X → Text × Entry) (es : Owners) (xs ys : List X) →
+pub sorted-table_of : {X : Type 0} (as_entry : X → Text × Registration) (es : Owners) (xs ys : List X) →
     IsDistinct (λ x y. x == y) (keys_of es) → map as_entry xs ≡ es → IsPermutation xs ys →
     IsNonDecreasingBy (λ x. (as_entry x).0) ys → pairs_of (map as_entry ys) ≡ table_of es
 sorted-table_of as_entry es xs ys d s p h =
@@ -72,7 +72,7 @@ sorted-table_of as_entry es xs ys d s p h =
     (λ y. ap (pair_under y) (standing-permutation es fs q d e y) ∙ sym (entry-pairs_of fs y)))
 
 -- the pairs of entries, and their names
-pub pairs_of-map : {X : Type 0} (as_entry : X → Text × Entry) (xs : List X) →
+pub pairs_of-map : {X : Type 0} (as_entry : X → Text × Registration) (xs : List X) →
     pairs_of (map as_entry xs) ≡ map (λ x. pair_of (as_entry x)) xs
 pairs_of-map as_entry [] = refl
 pairs_of-map as_entry (x ∷ xs) =

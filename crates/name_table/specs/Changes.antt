@@ -3,7 +3,7 @@ use Rattle.std.specs.Prelude.{Bool, true, false, Option, Some, None}
 use Rattle.registry_model.specs.Process.{Text}
 use Rattle.registry_model.specs.Table.{Pair, Change as TableChange}
 use Rattle.term.specs.Rules.{rule_of}
-use Rattle.name_table.specs.declared.change.Entry.{Entry}
+use Rattle.name_table.specs.declared.change.Registration.{Registration}
 use Rattle.name_table.specs.declared.change.Change.{Change}
 use Rattle.name_table.specs.declared.change.Change.TheVariants.{Put, Remove, StrikeOwner}
 
@@ -14,7 +14,7 @@ change_of (Remove x) = TableChange.Remove x
 change_of (StrikeOwner p) = TableChange.StrikeOwner p
 
 -- the pair of a name and what stands under it, if anything does
-abbrev pub pair_under : Text → Option Entry → Option Pair
+abbrev pub pair_under : Text → Option Registration → Option Pair
 pair_under x None = None
 pair_under x (Some e) = Some (record { name = x; owner = e.owner; rule = rule_of e.rule })
 

@@ -6,22 +6,22 @@ use Rattle.std.specs.BTreeSet.{BTreeSet, contains}
 use Rattle.registry_model.specs.Process.{Text, Process, is_process}
 use Rattle.registry_model.specs.Table.{Pair, Table, put}
 use Rattle.term.specs.Rules.{rule_of}
-use Rattle.name_table.specs.declared.change.Entry.{Entry}
+use Rattle.name_table.specs.declared.change.Registration.{Registration}
 
 -- what stands under each name, in any order
 abbrev pub Owners : Type 0
-Owners = List (Text × Entry)
+Owners = List (Text × Registration)
 
 -- the names of each process, in any order
 abbrev pub Owned : Type 0
 Owned = List (Process × BTreeSet Text)
 
 -- what stands under the name
-abbrev pub standing : Text → Owners → Option Entry
+abbrev pub standing : Text → Owners → Option Registration
 standing x owners = lookup (λ y. x == y) owners
 
 -- the owner in what stands under a name
-abbrev pub owner_under : Option Entry → Option Process
+abbrev pub owner_under : Option Registration → Option Process
 owner_under None = None
 owner_under (Some e) = Some e.owner
 
@@ -34,7 +34,7 @@ abbrev pub names_of : Process → Owned → Option (BTreeSet Text)
 names_of p owned = lookup (is_process p) owned
 
 -- a name and what stands under it as a pair
-abbrev pub pair_of : Text × Entry → Pair
+abbrev pub pair_of : Text × Registration → Pair
 pair_of e = record { name = e.0; owner = e.1.owner; rule = rule_of e.1.rule }
 
 -- the table of these names and what stands under them

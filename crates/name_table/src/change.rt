@@ -42,19 +42,19 @@ impl Pair {
 
 /// What stands in a table under a name.
 #[derive(Clone, Debug, PartialEq, Eq, Drop)]
-pub struct Entry {
+pub struct Registration {
     /// The process that owns the name.
     pub owner: Pid,
     /// The name's rule.
     pub rule: Rule,
 }
 
-impl Entry {
+impl Registration {
     /// The same entry. It takes no memory.
     pub fn copy(&self) -> Self
         ensures { result ≡ self.now }
     {
-        Entry {
+        Registration {
             owner: self.owner.copy(),
             rule: self.rule,
         }

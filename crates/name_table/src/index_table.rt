@@ -3,7 +3,7 @@ ghost use Rattle.std.specs.Prelude.{◌≡◌, [], map, IfOk, OnOk, OnErr};
 ghost use Rattle.registry_model.specs.Table.{put, remove, strike, names};
 ghost use Rattle.name_table.specs.Index.{table_of, pair_of, HaveNames, Lists, Unlists, Forgets};
 
-use crate::change::{Change, Entry, Pair};
+use crate::change::{Change, Pair, Registration};
 use crate::name_set::NameSet;
 use crate::names::Names;
 use indexmap::IndexMap;
@@ -13,13 +13,13 @@ use std::marker::Model;
 use term::{Name, Node, Pid};
 
 /// What stands under each name.
-type Owners<A> = IndexMap<Name, Entry, BuildHasherDefault<FoldHasher>, A>;
+type Owners<A> = IndexMap<Name, Registration, BuildHasherDefault<FoldHasher>, A>;
 
 /// The names of each process that owns one.
 type Owned<A> = IndexMap<Pid, NameSet<A>, BuildHasherDefault<FoldHasher>, A>;
 
 /// A name with what stands under it, where they lie in a map.
-type Standing<'a> = (&'a Name, &'a Entry);
+type Standing<'a> = (&'a Name, &'a Registration);
 
 /// A table of names that finds a name, and the names of a process, by hashing: what a look-up or a change of one
 /// name costs doesn't grow with the table, but that a put whose map has no room left moves the whole map, as rarely as a
@@ -126,7 +126,7 @@ impl<A: Allocator + Copy + Drop> IndexTable<A> {
     }
 
     /// This stands under the name from now on. Behind the listing nothing can be refused, so a refusal changes nothing.
-    fn put(&mut self, name: Name, entry: Entry) -> Result<(), AllocError>
+    fn put(&mut self, name: Name, entry: Registration) -> Result<(), AllocError>
         ensures ok { OnOk result (self.new ≡ put (pair_of (name, entry)) self.old) }
         ensures err { OnErr result (self.new ≡ self.old) }
     {
@@ -169,7 +169,7 @@ impl<A: Allocator + Copy + Drop> Names for IndexTable<A> {
         IndexTable::new(memory)
     }
 
-    fn get(&self, name: &Name) -> Option<Entry> {
+    fn get(&self, name: &Name) -> Option<Registration> {
         let entry = self.owners.get(name)?;
         Some(entry.copy())
     }
@@ -187,7 +187,7 @@ impl<A: Allocator + Copy + Drop> Names for IndexTable<A> {
         match change {
             Change::Put(pair) => self.put(
                 pair.name,
-                Entry {
+                Registration {
                     owner: pair.owner,
                     rule: pair.rule,
                 },

@@ -8,7 +8,7 @@ mod list_table;
 mod name_set;
 mod names;
 
-pub use change::{Change, Entry, Pair, copied_pairs};
+pub use change::{Change, Pair, Registration, copied_pairs};
 pub use index_table::IndexTable;
 pub use list_table::ListTable;
 pub use names::Names;

@@ -5,7 +5,7 @@ ghost use Rattle.name_table.specs.Changes.{pair_under};
 ghost use Rattle.name_table.specs.Owners.{name_of};
 ghost use Rattle.name_table.specs.Places.{place, stands};
 
-use crate::change::{Change, Entry, Pair};
+use crate::change::{Change, Pair, Registration};
 use crate::names::Names;
 use std::alloc::{AllocError, Allocator};
 use std::marker::Model;
@@ -48,14 +48,14 @@ fn stands_at(pairs: &[Pair], at: usize, name: &Name) -> bool
 }
 
 /// What stands under a name.
-fn entry_in(pairs: &[Pair], name: &Name) -> Option<Entry>
+fn entry_in(pairs: &[Pair], name: &Name) -> Option<Registration>
     requires { is_rising pairs.now ≡ true }
     ensures { pair_under name.now result ≡ entry name.now pairs.now }
 {
     let at = place_of(pairs, name);
     if stands_at(pairs, at, name) {
         let pair = &pairs[at];
-        Some(Entry {
+        Some(Registration {
             owner: pair.owner.copy(),
             rule: pair.rule,
         })
@@ -151,7 +151,7 @@ impl<A: Allocator + Drop> Names for ListTable<A> {
         }
     }
 
-    fn get(&self, name: &Name) -> Option<Entry> {
+    fn get(&self, name: &Name) -> Option<Registration> {
         entry_in(self.pairs.as_slice(), name)
     }
 

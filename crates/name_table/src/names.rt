@@ -4,7 +4,7 @@ ghost use Rattle.registry_model.specs.Table.{Table, get, entry, owns, changed, i
 ghost use Rattle.name_table.specs.Changes.{change_of, is_put, pair_under};
 ghost use Rattle.name_table.specs.Owners.{name_of};
 
-use crate::change::{Change, Entry, Pair};
+use crate::change::{Change, Pair, Registration};
 use std::alloc::{AllocError, Allocator};
 use term::{Name, Node, Pid};
 
@@ -21,7 +21,7 @@ pub trait Names: Sized + Drop {
         ensures { contents result ≡ [] };
 
     /// What stands under a name, if it has an owner.
-    fn get(&self, name: &Name) -> Option<Entry>
+    fn get(&self, name: &Name) -> Option<Registration>
         ensures { pair_under name.now result ≡ entry name.now (contents self.now) };
 
     /// The owner of a name, if it has one.

@@ -16,9 +16,9 @@ pub use fault::ScribeFault;
 pub use laws::{lengths_tell_what_is_shown, logs_only_grow, what_is_owed_is_more};
 pub use moment::Moment;
 pub use node_loop::{
-    Answer, Call, Edit, Edition, Effect, Event, Item, NameList, NodeEnd, NodeLoop, Nodes, Notice,
-    NoticeList, Numbers, Record, Reply, Retries, SeatEntry, StepFault, Task, TaskFault, TaskReply,
-    Ticket, Transcript, Update, WorldEvent,
+    Answer, Call, Edit, Edition, Effect, Item, LocalEvent, NameList, NodeEnd, NodeLoop, Nodes,
+    Notice, NoticeList, Numbers, Record, Reply, Retries, SeatEntry, StepFault, Task, TaskFault,
+    TaskReply, Ticket, Transcript, Update, WorldEvent,
 };
 pub use node_past::Past;
 pub use rule::Token;

@@ -6,7 +6,7 @@ use Rattle.term.specs.Nodes.{name_of}
 use Rattle.term.specs.NodeSets.{set_of, with_older}
 use Rattle.term.proofs.Older.{held, reached, below_name}
 use Rattle.boss_order.proofs.Sets.{set_of-item}
-use Rattle.node_core.specs.Held.{bound_of, AreOf, IsWithin}
+use Rattle.node_core.specs.CoreState.{bound_of, AreOf, IsWithin}
 
 -- all nodes with the name of a node of a list are below the list's bound
 name_bound : (world : List ℕ) (c : ℕ) → set_of world c ≡ true → name_of c + 2 ^ 32 ≤ bound_of world

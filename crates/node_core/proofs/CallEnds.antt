@@ -16,16 +16,16 @@ use Rattle.walk.proofs.Calls.{is_process-same, is_process-true, call_of-holder}
 use Rattle.term.specs.NodeSets.{set_of}
 use Rattle.locker.specs.declared.ending.Ending.{Ending}
 use Rattle.locker.specs.declared.ending.Ending.TheVariants.{Held as Holds, GiveBack}
-use Rattle.locker.specs.Held.{Held as HeldRound, seen}
+use Rattle.locker.specs.RoundState.{RoundState, seen}
 use Rattle.locker.specs.Ends.{EndsAs}
 use Rattle.lock_calls.specs.declared.call.CallPhase.{CallPhase}
 use Rattle.lock_calls.specs.declared.call.CallPhase.TheVariants.{Asking, Waiting, Deleting}
 use Rattle.lock_calls.specs.declared.call.LockCall.{LockCall}
 use Rattle.lock_calls.specs.Calls.{phase_of, as_call}
-use Rattle.lock_calls.specs.Held.{Held as LockCalls, seen as calls_seen}
+use Rattle.lock_calls.specs.LockCallsState.{LockCallsState, seen as calls_seen}
 use Rattle.lock_calls.specs.Standing.{stands_by, answered, lost, given_up}
 use Rattle.node_events.specs.Made.{Made}
-use Rattle.node_core.specs.Held.{Held, bound_of, IsWithin, IsCallWithin, IsWhole}
+use Rattle.node_core.specs.CoreState.{CoreState, bound_of, IsWithin, IsCallWithin, IsWhole}
 use Rattle.node_core.specs.Locking.{end_of, end_in, loss_of, deleted_of, deleted_in}
 use Rattle.node_core.specs.Seen.{turn_of}
 use Rattle.node_core.specs.Steps.{Makes}
@@ -62,16 +62,16 @@ found_put c (d ∷ xs) =
     go false false is r = rw (another is) r
 
 -- the call of a process that is found in one node is found in the same node
-pub same_found : (h0 h : Held) (p : Process) (c : AnyCall) → h0 ≡ h → Some c ≡ call_of p (calls_seen h0.calls)
+pub same_found : (h0 h : CoreState) (p : Process) (c : AnyCall) → h0 ≡ h → Some c ≡ call_of p (calls_seen h0.calls)
     → Some c ≡ call_of p (calls_seen h.calls)
-same_found h0 h p c same found = found ∙ ap (λ (x : Held). call_of p (calls_seen x.calls)) same
+same_found h0 h p c same found = found ∙ ap (λ (x : CoreState). call_of p (calls_seen x.calls)) same
 
 -- the call that is found is of the process
 pub found_is : (p : Process) (xs : List AnyCall) (c : AnyCall) → Some c ≡ call_of p xs → p ≡ c.holder
 found_is p xs c found = sym (is_process-true c.holder p (call_of-holder p xs c (sym found)))
 
 -- its round is over, or it isn't
-module _ (h : Held) (t : Made) (c : LockCall) (p : Process) (r : HeldRound) (over : Bool)
+module _ (h : CoreState) (t : Made) (c : LockCall) (p : Process) (r : RoundState) (over : Bool)
     (found : Some (as_call c) ≡ call_of p (calls_seen h.calls)) (asking : c.phase ≡ Asking r)
     (within : IsWithin h.world r.nodes)
     (ends : (n : ℕ) → All (λ d. d < n) r.nodes → over ≡ is_over n (seen r)) where
@@ -111,14 +111,14 @@ module _ (h : Held) (t : Made) (c : LockCall) (p : Process) (r : HeldRound) (ove
         (is_end n0 below (subst (λ (ys : List ℕ). All (λ d. d < n0) ys) (sym all_asked) below))
 
     -- the lock is held
-    pub ends_held : (k : Held) (u : Made) → over ≡ true → e ≡ Holds
+    pub ends_held : (k : CoreState) (u : Made) → over ≡ true → e ≡ Holds
         → Makes (λ n a. close_call n a (as_call c) true) h t k u
         → Makes (λ n a w. end_of n a (call_of p w.node.calls) w) h t k u
     ends_held k u is held M = made_as M (ends_by IsHeld is
         (held_end _ (subst (λ (x : Ending). EndsAs x (ending n0 (asked_by (seen r)) (seen r))) held end_here)))
 
     -- it is refused, and these get their grants back
-    pub ends_failed : (k : Held) (u v : Made) (ys : List ℕ) → over ≡ true → e ≡ GiveBack ys
+    pub ends_failed : (k : CoreState) (u v : Made) (ys : List ℕ) → over ≡ true → e ≡ GiveBack ys
         → Makes (λ n a. give_lock n a (as_call c) (set_of ys)) h t h u
         → Makes (λ n a. refuse_lock n a (as_call c)) h u k v
         → Makes (λ n a w. end_of n a (call_of p w.node.calls) w) h t k v
@@ -126,7 +126,7 @@ module _ (h : Held) (t : Made) (c : LockCall) (p : Process) (r : HeldRound) (ove
         (failed_end ys _ (subst (λ (x : Ending). EndsAs x (ending n0 (asked_by (seen r)) (seen r))) failed end_here)))
 
 -- the call is put with its round as it stands now, and may be over
-pub goes_on_lock : (h0 h k2 : Held) (t u : Made) (c : AnyCall) (p : Process) (r : Round) (k : LockCalls) → h0 ≡ h
+pub goes_on_lock : (h0 h k2 : CoreState) (t u : Made) (c : AnyCall) (p : Process) (r : Round) (k : LockCallsState) → h0 ≡ h
     → p ≡ c.holder → calls_seen k ≡ put_call (in_phase (LockPhase.Asking r) c) (calls_seen h0.calls)
     → Makes (λ n a w. end_of n a (call_of p w.node.calls) w) (record h0 { calls = k }) t k2 u
     → Makes (λ n a. go_on_lock n a c r) h t k2 u
@@ -138,7 +138,7 @@ goes_on_lock h0 h k2 t u c p r k same is put E =
     ∙ ap (λ (o : Option AnyCall). end_of (bound_of h.world) h.name o kept) (found_put now (calls_seen h.calls)))
 
 -- A call of a process stands elsewhere. c: as it stood
-module _ (h0 h : Held) (c : LockCall) (p : Process) (k : LockCalls) (next : LockPhase → LockPhase) (same : h0 ≡ h)
+module _ (h0 h : CoreState) (c : LockCall) (p : Process) (k : LockCallsState) (next : LockPhase → LockPhase) (same : h0 ≡ h)
     (found : Some (as_call c) ≡ call_of p (calls_seen h.calls))
     (stands : calls_seen k ≡ stands_by next (call_of p (calls_seen h0.calls)) (calls_seen h0.calls)) where
   abbrev now : AnyCall
@@ -158,30 +158,30 @@ module _ (h0 h : Held) (c : LockCall) (p : Process) (k : LockCalls) (next : Lock
       (All-put_call (λ d. IsCallWithin h0.world d.phase) now (calls_seen h0.calls) within whole.called))
 
 -- the nodes of a round that f answered have started
-pub answer_within : (h0 h : Held) (c : LockCall) (r : HeldRound) (f : ℕ) (granted : Bool) → h0 ≡ h
+pub answer_within : (h0 h : CoreState) (c : LockCall) (r : RoundState) (f : ℕ) (granted : Bool) → h0 ≡ h
     → c.phase ≡ Asking r → owes (seen r) f ≡ true → IsCallWithin h.world (phase_of c.phase)
     → IsCallWithin h0.world (answered f granted (as_call c).phase)
 answer_within h0 h c r f granted same asking owed within =
     subst (λ (x : CallPhase). IsCallWithin h0.world (answered f granted (phase_of x))) (sym asking)
-    (λ d e. subst (λ (x : Held). IsCallWithin x.world (phase_of (Asking r))) (sym same)
+    (λ d e. subst (λ (x : CoreState). IsCallWithin x.world (phase_of (Asking r))) (sym same)
     (subst (λ (x : CallPhase). IsCallWithin h.world (phase_of x)) asking within) d
     (answered_of (seen r) f granted owed d e))
 
 -- the nodes of a round that lost f are
-pub lost_within : (h0 h : Held) (c : LockCall) (r : HeldRound) (f : ℕ) → h0 ≡ h → c.phase ≡ Asking r
+pub lost_within : (h0 h : CoreState) (c : LockCall) (r : RoundState) (f : ℕ) → h0 ≡ h → c.phase ≡ Asking r
     → IsCallWithin h.world (phase_of c.phase) → IsCallWithin h0.world (lost f (as_call c).phase)
 lost_within h0 h c r f same asking within =
     subst (λ (x : CallPhase). IsCallWithin h0.world (lost f (phase_of x))) (sym asking)
-    (λ d e. subst (λ (x : Held). IsCallWithin x.world (phase_of (Asking r))) (sym same)
+    (λ d e. subst (λ (x : CoreState). IsCallWithin x.world (phase_of (Asking r))) (sym same)
     (subst (λ (x : CallPhase). IsCallWithin h.world (phase_of x)) asking within) d (down_of (seen r) f d e))
 
 -- the nodes of a deletion that f gave up are, too
-pub give_up_within : (h0 h : Held) (c : LockCall) (owing : List ℕ) (f : ℕ) → h0 ≡ h
+pub give_up_within : (h0 h : CoreState) (c : LockCall) (owing : List ℕ) (f : ℕ) → h0 ≡ h
     → c.phase ≡ Deleting owing → IsCallWithin h.world (phase_of c.phase)
     → IsCallWithin h0.world (given_up f (as_call c).phase)
 give_up_within h0 h c owing f same deleting within =
     subst (λ (x : CallPhase). IsCallWithin h0.world (given_up f (phase_of x))) (sym deleting)
-    (λ d e. subst (λ (x : Held). IsCallWithin x.world (phase_of (Deleting owing))) (sym same)
+    (λ d e. subst (λ (x : CoreState). IsCallWithin x.world (phase_of (Deleting owing))) (sym same)
     (subst (λ (x : CallPhase). IsCallWithin h.world (phase_of x)) deleting within) d
     (owing_still (d == f) (set_of owing d) e))
   where
@@ -190,8 +190,8 @@ give_up_within h0 h c owing f same deleting within =
     owing_still false s e = e
 
 -- a node answers the round of the call: letter: what the rest are asked
-pub hears_lock : (h0 h k2 : Held) (t t1 u : Made) (c : LockCall) (p : Process) (r : HeldRound) (f : ℕ)
-    (granted : Bool) (letter : AnyLetter) (k : LockCalls) → h0 ≡ h → p ≡ c.holder
+pub hears_lock : (h0 h k2 : CoreState) (t t1 u : Made) (c : LockCall) (p : Process) (r : RoundState) (f : ℕ)
+    (granted : Bool) (letter : AnyLetter) (k : LockCallsState) → h0 ≡ h → p ≡ c.holder
     → Some (as_call c) ≡ call_of p (calls_seen h.calls) → c.phase ≡ Asking r → owes (seen r) f ≡ true
     → letter ≡ AnyLetter.SetLock (as_call c).id c.holder
     → Makes (λ n a. ask_rest n a f granted letter (seen r)) h t h t1
@@ -222,7 +222,7 @@ hears_lock h0 h k2 t t1 u c p r f granted letter k same is found asking owed sai
         asking
 
 -- a deletion that waits for nobody is answered; b: it waits for nobody
-module _ (h : Held) (t : Made) (c : LockCall) (p : Process) (owing : List ℕ) (b : Bool)
+module _ (h : CoreState) (t : Made) (c : LockCall) (p : Process) (owing : List ℕ) (b : Bool)
     (found : Some (as_call c) ≡ call_of p (calls_seen h.calls)) (deleting : c.phase ≡ Deleting owing)
     (is : b ≡ (length owing == 0)) (within : IsCallWithin h.world (phase_of c.phase)) where
   -- what comes of it
@@ -240,7 +240,7 @@ module _ (h : Held) (t : Made) (c : LockCall) (p : Process) (owing : List ℕ) (
   pub deletion_goes_on : b ≡ false → Makes (λ n a u. deleted_of n a (call_of p u.node.calls) u) h t h t
   deletion_goes_on some = record { name = refl; world = refl; turn = ap deletes_now (sym some) ∙ deletes_by }
 
-  pub deletion_ends : (k : Held) (u : Made) → b ≡ true → Makes (λ n a. close_call n a (as_call c) true) h t k u
+  pub deletion_ends : (k : CoreState) (u : Made) → b ≡ true → Makes (λ n a. close_call n a (as_call c) true) h t k u
       → Makes (λ n a w. deleted_of n a (call_of p w.node.calls) w) h t k u
   deletion_ends k u none M = made_as M (ap deletes_now (sym none) ∙ deletes_by)
 
@@ -272,7 +272,7 @@ drop_put a c (d ∷ xs) own all =
     go false false is r = ap (λ (ys : List AnyCall). if not (is_process d.holder p) then d ∷ ys else ys) r
 
 -- f gives the lock of a deletion up
-pub owes_less : (h0 h k2 : Held) (t u : Made) (c : LockCall) (p : Process) (f a : ℕ) (owing : List ℕ) (k : LockCalls)
+pub owes_less : (h0 h k2 : CoreState) (t u : Made) (c : LockCall) (p : Process) (f a : ℕ) (owing : List ℕ) (k : LockCallsState)
     → h0 ≡ h → p ≡ c.holder → Some (as_call c) ≡ call_of p (calls_seen h.calls) → c.phase ≡ Deleting owing
     → set_of owing f ≡ true → c.holder.node ≡ a → All (λ d. d.holder.node ≡ a) (calls_seen h.calls)
     → calls_seen k ≡ stands_by (given_up f) (call_of p (calls_seen h0.calls)) (calls_seen h0.calls)
@@ -308,7 +308,7 @@ owes_less h0 h k2 t u c p f a owing k same is found deleting owed own all stands
         ∙ ap (λ (x : CallPhase). put_call (in_phase (given_up f (phase_of x)) (as_call c)) (calls_seen h0.calls)) deleting
 
 -- the round of the call is told that f has gone down
-pub loses_lock : (h0 h k2 : Held) (t u : Made) (c : LockCall) (p : Process) (r : HeldRound) (f : ℕ) (k : LockCalls)
+pub loses_lock : (h0 h k2 : CoreState) (t u : Made) (c : LockCall) (p : Process) (r : RoundState) (f : ℕ) (k : LockCallsState)
     → h0 ≡ h → p ≡ c.holder → Some (as_call c) ≡ call_of p (calls_seen h.calls) → c.phase ≡ Asking r
     → calls_seen k ≡ stands_by (lost f) (call_of p (calls_seen h0.calls)) (calls_seen h0.calls)
     → Makes (λ n a w. end_of n a (call_of p w.node.calls) w) (record h0 { calls = k }) t k2 u
@@ -323,8 +323,8 @@ loses_lock h0 h k2 t u c p r f k same is found asking stands E =
         ∙ ap (λ (x : CallPhase). put_call (in_phase (lost f (phase_of x)) (as_call c)) (calls_seen h0.calls)) asking
 
 -- a call that isn't asking is told as its deletion is
-pub loses_other : (h k : Held) (t u : Made) (c : LockCall) (p : Process) (f : ℕ)
-    → Some (as_call c) ≡ call_of p (calls_seen h.calls) → ((r : HeldRound) → c.phase ≡ Asking r → ⊥)
+pub loses_other : (h k : CoreState) (t u : Made) (c : LockCall) (p : Process) (f : ℕ)
+    → Some (as_call c) ≡ call_of p (calls_seen h.calls) → ((r : RoundState) → c.phase ≡ Asking r → ⊥)
     → Makes (λ n a w. owe_less n a f (call_of p w.node.calls) w) h t k u
     → Makes (λ n a w. loss_of n a f (call_of p w.node.calls) w) h t k u
 loses_other h k t u c p f found other M = made_as M (

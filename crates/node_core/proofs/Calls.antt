@@ -23,19 +23,19 @@ use Rattle.node_events.specs.declared.events.Call.{Call}
 use Rattle.node_events.specs.declared.events.Call.TheVariants.{SetLock, DelLock}
 use Rattle.node_events.specs.declared.events.Event.TheVariants.{Call as Calls}
 use Rattle.node_events.specs.Made.{Made}
-use Rattle.node_core.specs.Held.{Held, bound_of}
+use Rattle.node_core.specs.CoreState.{CoreState, bound_of}
 use Rattle.node_core.specs.Seen.{node_of, turn_of}
 use Rattle.node_events.specs.Seen.{call_of}
 use Rattle.node_core.specs.Steps.{Makes, refusal_of}
 use Rattle.node_core.proofs.LockRefusals.{is_global}
 
 -- the call is this one, and this is where it comes to
-pub calls : {h k k0 : Held} {t u u0 : Made} (c : Call) (d : AnyCall) → call_of c ≡ d → k ≡ k0 → u ≡ u0
+pub calls : {h k k0 : CoreState} {t u u0 : Made} (c : Call) (d : AnyCall) → call_of c ≡ d → k ≡ k0 → u ≡ u0
     → Makes (λ n a w. call n a (w.node.last_call + 1) d w) h t k0 u0
     → Makes (λ n a w. call n a (w.node.last_call + 1) (call_of c) w) h t k u
 calls {h} {k} {k0} {t} {u} {u0} c d is state turn made =
     subst (λ (e : AnyCall). Makes (λ n a w. call n a (w.node.last_call + 1) e w) h t k u) (sym is)
-    (subst (λ (x : Held). Makes (λ n a w. call n a (w.node.last_call + 1) d w) h t x u) (sym state)
+    (subst (λ (x : CoreState). Makes (λ n a w. call n a (w.node.last_call + 1) d w) h t x u) (sym state)
     (subst (λ (v : Made). Makes (λ n a w. call n a (w.node.last_call + 1) d w) h t k0 v) (sym turn) made))
 
 -- a lock call that isn't refused is on another resource than `global`
@@ -55,7 +55,7 @@ is_client id other =
     ∙ ap (λ (b : Bool). if b then Global id.requester else Client id.resource id.requester) other
 
 -- h is the node, and h1 the node with one call more, which is c: its process asks these nodes for this lock
-module _ (h h1 k : Held) (t u : Made) (c : LockCall) (p : Process) (id : LockId) (nodes : Nodes) (retries : Retries)
+module _ (h h1 k : CoreState) (t u : Made) (c : LockCall) (p : Process) (id : LockId) (nodes : Nodes) (retries : Retries)
     (state : h1 ≡ record h { last_call = h.last_call + 1 })
     (is : c ≡ record {
       holder = p;
@@ -84,19 +84,19 @@ module _ (h h1 k : Held) (t u : Made) (c : LockCall) (p : Process) (id : LockId)
         → turn_of k u ≡ rule (by_id (Client id.resource id.requester)) (count_call (turn_of h t))
     begins other made = made ∙ ap (λ (d : LockCall). rule (as_call d) (turn_of h1 t)) is
         ∙ ap (λ (i : Id). rule (by_id i) (turn_of h1 t)) (is_client id other)
-        ∙ ap (λ (x : Held). rule (by_id (Client id.resource id.requester)) (turn_of x t)) state
+        ∙ ap (λ (x : CoreState). rule (by_id (Client id.resource id.requester)) (turn_of x t)) state
 
   -- a `set_lock`
   pub sets : (x : Call) → x ≡ SetLock p id nodes retries → refusal_of (Calls x) h ≡ None
       → Makes (λ n a. try_lock n a (as_call c)) h1 t k u
       → Makes (λ n a w. call n a (w.node.last_call + 1) (call_of x) w) h t k u
   sets x same none M = record {
-    name = M.name ∙ ap (λ (y : Held). y.name) state;
-    world = M.world ∙ ap (λ (y : Held). y.world) state;
+    name = M.name ∙ ap (λ (y : CoreState). y.name) state;
+    world = M.world ∙ ap (λ (y : CoreState). y.world) state;
     turn = begins (try_lock (bound_of h.world) h.name) (not_reserved p live busy
         (id.resource == refused.global_resource) (cause (not known) refused.UnknownNode ∷ refused.calls_spent v ∷ [])
         (ap (λ (y : Call). refusal_of (Calls y) h) (sym same) ∙ none))
-        (subst (λ (y : Held). turn_of k u ≡ try_lock (bound_of y.world) y.name (as_call c) (turn_of h1 t)) state M.turn)
+        (subst (λ (y : CoreState). turn_of k u ≡ try_lock (bound_of y.world) y.name (as_call c) (turn_of h1 t)) state M.turn)
         ∙ ap (λ (y : Call). call (bound_of h.world) h.name (h.last_call + 1) (call_of y) (turn_of h t)) (sym same);
   }
     where
@@ -117,12 +117,12 @@ module _ (h h1 k : Held) (t u : Made) (c : LockCall) (p : Process) (id : LockId)
       → Makes (λ n a. delete_lock n a (as_call c)) h1 t k u
       → Makes (λ n a w. call n a (w.node.last_call + 1) (call_of x) w) h t k u
   deletes x same once none M = record {
-    name = M.name ∙ ap (λ (y : Held). y.name) state;
-    world = M.world ∙ ap (λ (y : Held). y.world) state;
+    name = M.name ∙ ap (λ (y : CoreState). y.name) state;
+    world = M.world ∙ ap (λ (y : CoreState). y.world) state;
     turn = begins (delete_lock (bound_of h.world) h.name) (not_reserved p live busy
         (id.resource == refused.global_resource) (refused.calls_spent v ∷ [])
         (ap (λ (y : Call). refusal_of (Calls y) h) (sym same) ∙ none))
-        (subst (λ (y : Held). turn_of k u ≡ delete_lock (bound_of y.world) y.name (as_call c) (turn_of h1 t)) state
+        (subst (λ (y : CoreState). turn_of k u ≡ delete_lock (bound_of y.world) y.name (as_call c) (turn_of h1 t)) state
         M.turn)
         ∙ ap (λ (r : Retries). delete_lock (bound_of h.world) h.name
         (record (by_id (Client id.resource id.requester)) { retries = retries_of r }) (count_call (turn_of h t))) once

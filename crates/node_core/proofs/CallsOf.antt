@@ -11,7 +11,7 @@ use Rattle.protocol_model.specs.Turn.{keep_call, reply_with, become}
 use Rattle.protocol_model.specs.Client.{in_phase, close_call, refuse_lock, is_spent, one_less, retry_in, try_lock}
 use Rattle.term.specs.NodeSets.{set_of}
 use Rattle.lock_table.specs.Ids.{id_of}
-use Rattle.locker.specs.Held.{Held as HeldRound, seen}
+use Rattle.locker.specs.RoundState.{RoundState, seen}
 use Rattle.transaction.specs.Calls.{target_of, retries_of}
 use Rattle.transaction.specs.declared.nodes.Retries.{Retries}
 use Rattle.transaction.specs.declared.nodes.Retries.TheVariants.{Times, Endless}
@@ -19,12 +19,12 @@ use Rattle.lock_calls.specs.declared.call.CallPhase.{CallPhase}
 use Rattle.lock_calls.specs.declared.call.CallPhase.TheVariants.{Asking, Waiting, Deleting}
 use Rattle.lock_calls.specs.declared.call.LockCall.{LockCall}
 use Rattle.lock_calls.specs.Calls.{phase_of, as_call}
-use Rattle.lock_calls.specs.Held.{Held as LockCalls, seen as calls_seen}
+use Rattle.lock_calls.specs.LockCallsState.{LockCallsState, seen as calls_seen}
 use Rattle.lock_calls.specs.Standing.{stands_by, asks_again}
 use Rattle.node_events.specs.declared.events.Letter.{Letter}
 use Rattle.node_events.specs.Letters.{letter_of}
 use Rattle.node_events.specs.Made.{Made, sent}
-use Rattle.node_core.specs.Held.{Held, bound_of, IsWithin, IsCallWithin, IsWhole}
+use Rattle.node_core.specs.CoreState.{CoreState, bound_of, IsWithin, IsCallWithin, IsWhole}
 use Rattle.node_core.specs.Locking.{retry_of}
 use Rattle.node_core.specs.Seen.{turn_of}
 use Rattle.node_core.specs.Steps.{Makes}
@@ -46,7 +46,7 @@ drop_twice p (c ∷ xs) = go (is_process c.holder p) refl (drop_twice p xs)
         ∙ ap (λ (ys : List AnyCall). c ∷ ys) same
 
 -- the call of a process, which was taken out, has ended
-pub closes_of : (h0 h k : Held) (t u : Made) (c : LockCall) (p : Process) (granted : Bool) (d : AnyCall) (l : LockCalls)
+pub closes_of : (h0 h k : CoreState) (t u : Made) (c : LockCall) (p : Process) (granted : Bool) (d : AnyCall) (l : LockCallsState)
     → h0 ≡ h → calls_seen l ≡ drop_call p (calls_seen h0.calls) → Some (as_call c) ≡ call_of p (calls_seen h0.calls)
     → call_of p (calls_seen h.calls) ≡ Some d
     → Makes (λ n a. close_call n a (as_call c) granted) (record h0 { calls = l }) t k u
@@ -54,7 +54,7 @@ pub closes_of : (h0 h k : Held) (t u : Made) (c : LockCall) (p : Process) (grant
 closes_of h0 h k t u c p granted d l same taken was found M =
     let is : as_call c ≡ d = some_same (same_found h0 h p (as_call c) same was ∙ found) in
     let own : p ≡ c.holder = found_is p (calls_seen h0.calls) (as_call c) was in
-    subst (λ (x : Held). Makes (λ n a. close_call n a d granted) x t k u) same
+    subst (λ (x : CoreState). Makes (λ n a. close_call n a d granted) x t k u) same
     (subst (λ (x : AnyCall). Makes (λ n a. close_call n a x granted) h0 t k u) is (record {
       name = M.name;
       world = M.world;
@@ -73,7 +73,7 @@ pub found_once : (p : Process) (xs : List AnyCall) (c d : AnyCall) → Some c �
 found_once p xs c d was found = let e : ◌≡◌ {A = Option AnyCall} (Some c) (Some d) = was ∙ found in cc
 
 -- a refused call whose retries are spent ends
-pub refuses_spent : (h k : Held) (t u : Made) (c d : AnyCall) → c ≡ d → is_spent c.retries ≡ true
+pub refuses_spent : (h k : CoreState) (t u : Made) (c d : AnyCall) → c ≡ d → is_spent c.retries ≡ true
     → Makes (λ n a. close_call n a d false) h t k u → Makes (λ n a. refuse_lock n a d) h t k u
 refuses_spent h k t u c d same spent M = made_as M (
     ap (λ (b : Bool). if b
@@ -81,7 +81,7 @@ refuses_spent h k t u c d same spent M = made_as M (
     else keep_call (in_phase LockPhase.Waiting d) (turn_of h t)) (sym (ap (λ (x : AnyCall). is_spent x.retries) (sym same) ∙ spent)))
 
 -- another waits for a retry
-pub refuses_waiting : (h0 h : Held) (t : Made) (c : LockCall) (p : Process) (d : AnyCall) (k : LockCalls) → h0 ≡ h
+pub refuses_waiting : (h0 h : CoreState) (t : Made) (c : LockCall) (p : Process) (d : AnyCall) (k : LockCallsState) → h0 ≡ h
     → Some (as_call c) ≡ call_of p (calls_seen h.calls) → as_call c ≡ d → is_spent (as_call c).retries ≡ false
     → calls_seen k ≡ stands_by (λ _. LockPhase.Waiting) (call_of p (calls_seen h0.calls)) (calls_seen h0.calls)
     → Makes (λ n a. refuse_lock n a d) h t (record h0 { calls = k }) t
@@ -109,7 +109,7 @@ waiting_is (Asking r) e = cc
 waiting_is (Deleting owing) e = cc
 
 -- the call that waits is tried again; nodes: whom it asks then; b: that is nobody
-module _ (h : Held) (t : Made) (c : LockCall) (p : Process) (nodes : List ℕ) (b : Bool)
+module _ (h : CoreState) (t : Made) (c : LockCall) (p : Process) (nodes : List ℕ) (b : Bool)
     (within : IsWithin h.world nodes) (found : Some (as_call c) ≡ call_of p (calls_seen h.calls))
     (waits : c.phase ≡ Waiting)
     (asked : (d : ℕ) → set_of nodes d ≡ targets (set_of h.members) (target_of c.nodes) d)
@@ -118,7 +118,7 @@ module _ (h : Held) (t : Made) (c : LockCall) (p : Process) (nodes : List ℕ) (
   again = record c { retries = less_of c.retries }
 
   -- a try of it is its retry
-  tried : (k : Held) (u : Made) → Makes (λ n a. try_lock n a (as_call again)) h t k u
+  tried : (k : CoreState) (u : Made) → Makes (λ n a. try_lock n a (as_call again)) h t k u
       → Makes (λ n a w. retry_of n a (call_of p w.node.calls) w) h t k u
   tried k u M = made_as M (
       ap (λ (r : AnyRetries). try_lock (bound_of h.world) h.name (record (as_call c) { retries = r }) (turn_of h t))
@@ -126,11 +126,11 @@ module _ (h : Held) (t : Made) (c : LockCall) (p : Process) (nodes : List ℕ) (
       ∙ ap (λ (x : CallPhase). retry_in (bound_of h.world) h.name (phase_of x) (as_call c) (turn_of h t)) (sym waits)
       ∙ ap (λ (o : Option AnyCall). retry_of (bound_of h.world) h.name o (turn_of h t)) found)
 
-  pub retries_none : (k : Held) (u : Made) → b ≡ true → Makes (λ n a. close_call n a (as_call c) false) h t k u
+  pub retries_none : (k : CoreState) (u : Made) → b ≡ true → Makes (λ n a. close_call n a (as_call c) false) h t k u
       → Makes (λ n a w. retry_of n a (call_of p w.node.calls) w) h t k u
   retries_none k u none M = tried k u (tries_none h t again nodes b within asked is k u none M)
 
-  pub retries_some : (h0 : Held) (u : Made) (k : LockCalls) (boss : ℕ) (l : Letter) (r : HeldRound) → h0 ≡ h
+  pub retries_some : (h0 : CoreState) (u : Made) (k : LockCallsState) (boss : ℕ) (l : Letter) (r : RoundState) → h0 ≡ h
       → b ≡ false → ((n : ℕ) → All (λ d. d < n) nodes → boss ≡ greatest n (set_of nodes))
       → letter_of l ≡ AnyLetter.SetLock (id_of c.id) c.holder
       → ((n : ℕ) → All (λ d. d < n) nodes → seen r ≡ begin n (set_of nodes)) → u ≡ sent boss l t
@@ -145,7 +145,7 @@ module _ (h : Held) (t : Made) (c : LockCall) (p : Process) (nodes : List ℕ) (
       (calls_seen h0.calls)) (sym (less_is c.retries)))))
 
 -- the node is whole where a call of it asks by a round of nodes that have started
-pub whole_again : (h0 h : Held) (c : LockCall) (p : Process) (k : LockCalls) (r : HeldRound) → h0 ≡ h
+pub whole_again : (h0 h : CoreState) (c : LockCall) (p : Process) (k : LockCallsState) (r : RoundState) → h0 ≡ h
     → Some (as_call c) ≡ call_of p (calls_seen h.calls)
     → calls_seen k ≡ asks_again (seen r) (call_of p (calls_seen h0.calls)) (calls_seen h0.calls)
     → k.node ≡ h0.calls.node → IsCallWithin h0.world (LockPhase.Asking (seen r)) → IsWhole h0

@@ -9,17 +9,17 @@ use Rattle.protocol_model.specs.Event.{is_join}
 use Rattle.protocol_model.specs.LockTable.{Locks}
 use Rattle.protocol_model.specs.Node.{Op as AnyOp, Current}
 use Rattle.term.specs.NodeSets.{set_of, with_older}
-use Rattle.exit_watch.specs.Held.{Held as Watch}
-use Rattle.lock_calls.specs.Held.{Held as LockCalls}
+use Rattle.exit_watch.specs.WatchState.{WatchState}
+use Rattle.lock_calls.specs.LockCallsState.{LockCallsState}
 use Rattle.transaction.specs.declared.op.Op.{Op}
 use Rattle.transaction.specs.declared.op.Op.TheVariants.{Name, Strike, Join, Admission}
 use Rattle.transaction.specs.Ops.{op_of}
 use Rattle.transaction.specs.Work.{IsCopyOf}
-use Rattle.locker.specs.Held.{seen}
+use Rattle.locker.specs.RoundState.{seen}
 use Rattle.node_events.specs.Seen.{reply_of}
 use Rattle.node_core.specs.declared.node.Phase.{Phase}
 use Rattle.node_core.specs.declared.node.Phase.TheVariants.{Asking, Waiting, Writing, Joining}
-use Rattle.node_core.specs.Held.{Held, IsWhole, IsOpWithin, IsCurrentWithin}
+use Rattle.node_core.specs.CoreState.{CoreState, IsWhole, IsOpWithin, IsCurrentWithin}
 use Rattle.node_core.specs.Rare.{joins_in}
 use Rattle.node_core.specs.Seen.{node_of, phase_of, current_of}
 use Rattle.node_core.specs.Steps.{IsAsBefore}
@@ -99,7 +99,7 @@ same_joins (x ∷ xs) (y ∷ ys) same =
     lengths (z ∷ zs) (w ∷ ws) e = ap (λ (n : ℕ). Prim.Native.Nat.suc n) (lengths zs ws (cc e))
 
 -- k has what h has, with operations and a phase that are seen as those of h
-pub record IsAlike (h k : Held) : Type 0 where
+pub record IsAlike (h k : CoreState) : Type 0 where
   pub name : k.name ≡ h.name
   pub world : k.world ≡ h.world
   pub members : k.members ≡ h.members
@@ -115,10 +115,10 @@ pub record IsAlike (h k : Held) : Type 0 where
   pub last_call : k.last_call ≡ h.last_call
 
 -- h with those operations and that phase
-abbrev with_work : Held → Held → Held
+abbrev with_work : CoreState → CoreState → CoreState
 with_work h k = record h { registrar = k.registrar; phase = k.phase }
 
-is_with_work : (h k : Held) → IsAlike h k → with_work h k ≡ k
+is_with_work : (h k : CoreState) → IsAlike h k → with_work h k ≡ k
 is_with_work h k a =
     ap (λ (x : ℕ). with_parts x h.world h.members h.told h.joined h.table h.notices h.locks h.watch h.calls h.last_call)
     (sym a.name)
@@ -136,14 +136,14 @@ is_with_work h k a =
     (sym a.notices)
     ∙ ap (λ (x : Locks). with_parts k.name k.world k.members k.told k.joined k.table k.notices x h.watch h.calls h.last_call)
     (sym a.locks)
-    ∙ ap (λ (x : Watch). with_parts k.name k.world k.members k.told k.joined k.table k.notices k.locks x h.calls h.last_call)
+    ∙ ap (λ (x : WatchState). with_parts k.name k.world k.members k.told k.joined k.table k.notices k.locks x h.calls h.last_call)
     (sym a.watch)
-    ∙ ap (λ (x : LockCalls). with_parts k.name k.world k.members k.told k.joined k.table k.notices k.locks k.watch x h.last_call)
+    ∙ ap (λ (x : LockCallsState). with_parts k.name k.world k.members k.told k.joined k.table k.notices k.locks k.watch x h.last_call)
     (sym a.calls)
     ∙ ap (λ (x : ℕ). with_parts k.name k.world k.members k.told k.joined k.table k.notices k.locks k.watch k.calls x)
     (sym a.last_call)
   where
-    with_parts : ℕ → List ℕ → List ℕ → List ℕ → Bool → Table → List (ℕ × List Notice) → Locks → Watch → LockCalls → ℕ → Held
+    with_parts : ℕ → List ℕ → List ℕ → List ℕ → Bool → Table → List (ℕ × List Notice) → Locks → WatchState → LockCallsState → ℕ → CoreState
     with_parts n w m d j t s l x c i = record {
       name = n;
       world = w;
@@ -160,7 +160,7 @@ is_with_work h k a =
       last_call = i;
     }
 
-pub alike_before : (h k : Held) → IsAlike h k → IsAsBefore h k
+pub alike_before : (h k : CoreState) → IsAlike h k → IsAsBefore h k
 alike_before h k a = record {
   name = a.name;
   world = a.world;
@@ -172,13 +172,13 @@ alike_before h k a = record {
       ∙ ap (λ (xs : List ℕ). current_of h.registrar.current xs h.phase) a.work.awaited);
 }
 
-pub alike_bounds : (h k : Held) → IsAlike h k → IsAsBounded h k
+pub alike_bounds : (h k : CoreState) → IsAlike h k → IsAsBounded h k
 alike_bounds h k a = record {
   joins = same_joins h.registrar.queue k.registrar.queue a.work.queue;
-  calls = ap (λ (cs : LockCalls). length cs.calls) a.calls;
+  calls = ap (λ (cs : LockCallsState). length cs.calls) a.calls;
 }
 
-pub alike_whole : (h k : Held) → IsAlike h k → IsWhole h → IsWhole k
+pub alike_whole : (h k : CoreState) → IsAlike h k → IsWhole h → IsWhole k
 alike_whole h k a whole = subst IsWhole (is_with_work h k a) (record {
   self = whole.self;
   members = whole.members;
@@ -195,8 +195,8 @@ alike_whole h k a whole = subst IsWhole (is_with_work h k a) (record {
 })
 
 -- the same of a node that is seen as h
-pub alike_before_at : (h0 h k : Held) → h0 ≡ h → IsAlike h0 k → IsAsBefore h k
-alike_before_at h0 h k same a = subst (λ (x : Held). IsAsBefore x k) same (alike_before h0 k a)
+pub alike_before_at : (h0 h k : CoreState) → h0 ≡ h → IsAlike h0 k → IsAsBefore h k
+alike_before_at h0 h k same a = subst (λ (x : CoreState). IsAsBefore x k) same (alike_before h0 k a)
 
-pub alike_bounds_at : (h0 h k : Held) → h0 ≡ h → IsAlike h0 k → IsAsBounded h k
-alike_bounds_at h0 h k same a = subst (λ (x : Held). IsAsBounded x k) same (alike_bounds h0 k a)
+pub alike_bounds_at : (h0 h k : CoreState) → h0 ≡ h → IsAlike h0 k → IsAsBounded h k
+alike_bounds_at h0 h k same a = subst (λ (x : CoreState). IsAsBounded x k) same (alike_bounds h0 k a)

@@ -13,9 +13,9 @@ use Rattle.protocol_model.specs.Client.{in_phase, is_spent, one_less, close_call
 use Rattle.moves.proofs.Rules.{is_after, is_ordered}
 use Rattle.walk.proofs.Calls.{Only, AllOpen, OrderedParts, ordered_parts, ordered_of, all_after, all_open, all_open-only, only_none, only_then, only_drop, only_put}
 use Rattle.lock_calls.specs.Calls.{as_call}
-use Rattle.lock_calls.specs.Held.{AreOrdered, seen}
+use Rattle.lock_calls.specs.LockCallsState.{AreOrdered, seen}
 use Rattle.node_events.specs.Made.{Made}
-use Rattle.node_core.specs.Held.{Held, IsWhole, bound_of}
+use Rattle.node_core.specs.CoreState.{CoreState, IsWhole, bound_of}
 use Rattle.node_core.specs.Locking.{retry_of, loss_of}
 use Rattle.node_core.specs.Seen.{turn_of}
 use Rattle.node_core.specs.Steps.{Makes}
@@ -140,12 +140,12 @@ module _ (rule : Rule) (one : ℕ → ℕ → LockCall → Turn → Turn)
     (alone : (n a : ℕ) (c : LockCall) (u : Turn) → (c.holder.node == a) ≡ true → nat_lt 0 c.holder.serial ≡ true
     → Only a c.holder u.node.calls (one n a c u).node.calls) where
   -- the calls of all holders have their turns
-  turns_all : (h0 h k : Held) (t u : Made) (ps : List Process) → h0 ≡ h → IsWhole h0
+  turns_all : (h0 h k : CoreState) (t u : Made) (ps : List Process) → h0 ≡ h → IsWhole h0
       → AreOrdered h0.calls.node (seen h0.calls) → ps ≡ map (λ c. c.holder) h0.calls.calls
       → Makes (each_of rule ps) h t k u
       → Makes (λ n a w. fold (λ x c. one n a c x) w w.node.calls) h t k u
   turns_all h0 h k t u ps same whole ordered are =
-      subst (λ (x : Held). Makes (each_of rule ps) x t k u
+      subst (λ (x : CoreState). Makes (each_of rule ps) x t k u
       → Makes (λ n a w. fold (λ y c. one n a c y) w w.node.calls) x t k u) same (λ M. record {
         name = M.name;
         world = M.world;
@@ -168,7 +168,7 @@ module _ (rule : Rule) (one : ℕ → ℕ → LockCall → Turn → Turn)
       in_order = is_ordered-of h0.name cs (subst (λ (a : ℕ). AreOrdered a cs) whole.calls ordered)
 
 -- the calls of all holders are retried
-pub retries_all : (h0 h k : Held) (t u : Made) (ps : List Process) → h0 ≡ h → IsWhole h0
+pub retries_all : (h0 h k : CoreState) (t u : Made) (ps : List Process) → h0 ≡ h → IsWhole h0
     → AreOrdered h0.calls.node (seen h0.calls) → ps ≡ map (λ c. c.holder) h0.calls.calls
     → Makes (each_of retry_of ps) h t k u → Makes retry_locks h t k u
 retries_all = turns_all retry_of (λ n a c. retry_in n a c.phase c) found retried_alone
@@ -183,7 +183,7 @@ abbrev pub loss : ℕ → Rule
 loss d n a = loss_of n a d
 
 -- the calls of all holders are told
-pub losses_all : (d : ℕ) (h0 h k : Held) (t u : Made) (ps : List Process) → h0 ≡ h → IsWhole h0
+pub losses_all : (d : ℕ) (h0 h k : CoreState) (t u : Made) (ps : List Process) → h0 ≡ h → IsWhole h0
     → AreOrdered h0.calls.node (seen h0.calls) → ps ≡ map (λ c. c.holder) h0.calls.calls
     → Makes (each_of (loss d) ps) h t k u → Makes (λ n a. lose_node n a d) h t k u
 losses_all d = turns_all (loss d) (λ n a c. lose_node_in n a d c.phase c) found (lost_alone d)

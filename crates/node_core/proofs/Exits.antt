@@ -8,12 +8,12 @@ use Rattle.protocol_model.specs.Watch.{Watch as AnyWatch, with_dead}
 use Rattle.protocol_model.specs.Turn.{Turn, send_all, enter}
 use Rattle.protocol_model.specs.Calling.{die}
 use Rattle.term.specs.NodeSets.{IsNodeSet, set_of}
-use Rattle.exit_watch.specs.Held.{Held as Watch, KeepsSuspects}
-use Rattle.lock_calls.specs.Held.{Held as LockCalls, seen}
+use Rattle.exit_watch.specs.WatchState.{WatchState, KeepsSuspects}
+use Rattle.lock_calls.specs.LockCallsState.{LockCallsState, seen}
 use Rattle.node_events.specs.declared.events.Entry.TheVariants.{Exit}
 use Rattle.node_events.specs.declared.events.Letter.TheVariants.{ReleaseOf}
 use Rattle.node_events.specs.Made.{Made, SendsAll, entered}
-use Rattle.node_core.specs.Held.{Held, IsWhole, bound_of}
+use Rattle.node_core.specs.CoreState.{CoreState, IsWhole, bound_of}
 use Rattle.node_core.specs.Seen.{turn_of}
 use Rattle.node_core.specs.Steps.{Makes}
 use Rattle.node_core.proofs.Bounds.{of_world}
@@ -23,19 +23,19 @@ use Rattle.node_core.proofs.Whole.{whole_watching}
 use Rattle.node_core.proofs.Locking.{whole_taken}
 
 -- the process is dead, and its call is taken out
-pub whole_exited : (h : Held) (w : Watch) (cs : LockCalls) (p : Process) → IsWhole h → w.node ≡ h.watch.node
+pub whole_exited : (h : CoreState) (w : WatchState) (cs : LockCallsState) (p : Process) → IsWhole h → w.node ≡ h.watch.node
     → KeepsSuspects h.watch w → cs.node ≡ h.calls.node → seen cs ≡ drop_call p (seen h.calls)
     → IsWhole (record h { watch = w; calls = cs })
 whole_exited h w cs p whole node kept own dropped = whole_taken (record h { watch = w }) cs p
     (whole_watching h w whole node (kept h.table whole.suspected)) own dropped
 
 -- the process is dead, and every member is to release its locks
-pub exits : (h k : Held) (w : Watch) (cs : LockCalls) (t u v : Made) (p q r : Process) → IsWhole k → k ≡ h
+pub exits : (h k : CoreState) (w : WatchState) (cs : LockCallsState) (t u v : Made) (p q r : Process) → IsWhole k → k ≡ h
     → IsNodeSet k.members → w.watch ≡ with_dead p.serial k.watch.watch → seen cs ≡ drop_call p (seen k.calls)
     → q ≡ p → r ≡ p → v ≡ entered (Exit q) t → SendsAll k.members (ReleaseOf r) v u
     → Makes (λ n a x. die n a p (enter (AnyEntry.Exit p) x)) h t (record k { watch = w; calls = cs }) u
 exits h k w cs t u v p q r whole same set dead dropped entering releasing put sends =
-    subst (λ (x : Held). Makes (λ n a y. die n a p (enter (AnyEntry.Exit p) y)) x t after u) same (record {
+    subst (λ (x : CoreState). Makes (λ n a y. die n a p (enter (AnyEntry.Exit p) y)) x t after u) same (record {
       name = refl;
       world = refl;
       turn = sent_all_is after (entered (Exit p) t) u k.members (ReleaseOf p) made set (of_world k.world k.members whole.members)
@@ -44,7 +44,7 @@ exits h k w cs t u v p q r whole same set dead dropped entering releasing put se
           ∙ ap (known (with_dead p.serial k.watch.watch)) dropped);
     })
   where
-    after : Held
+    after : CoreState
     after = record k { watch = w; calls = cs }
 
     known : AnyWatch → List LockCall → Turn

@@ -8,7 +8,7 @@ use Rattle.registry_model.specs.Process.{with_node}
 use Rattle.term.specs.Nodes.{name_of}
 use Rattle.term.specs.NodeSets.{set_of, with_older}
 use Rattle.term.proofs.Older.{held, reached}
-use Rattle.node_core.specs.Held.{AreOf, HaveLeft}
+use Rattle.node_core.specs.CoreState.{AreOf, HaveLeft}
 
 -- of two tests the first
 first : (a b : Bool) → (a && b) ≡ true → a ≡ true

@@ -29,8 +29,8 @@ use Rattle.term.proofs.Older.{held as is_held}
 use Rattle.term.proofs.NodeSets.{set_of-with_node}
 use Rattle.term.proofs.NodeLists.{rising-with_node}
 use Rattle.boss_order.proofs.Sets.{nodes_of-set_of, nodes_of-within}
-use Rattle.exit_watch.specs.Held.{Held as Watch, with_killed, AreSuspected}
-use Rattle.lock_calls.specs.Held.{Held as LockCalls, seen}
+use Rattle.exit_watch.specs.WatchState.{WatchState, with_killed, AreSuspected}
+use Rattle.lock_calls.specs.LockCallsState.{LockCallsState, seen}
 use Rattle.transaction.specs.declared.op.Op.{Op}
 use Rattle.transaction.specs.Ops.{op_of}
 use Rattle.transaction.specs.Work.{Work}
@@ -45,7 +45,7 @@ use Rattle.node_events.specs.declared.events.Letter.TheVariants.{ReleaseOf, Appl
 use Rattle.node_events.specs.declared.events.Reply.TheVariants.{Joined as IsJoined}
 use Rattle.node_core.specs.declared.node.Phase.TheVariants.{Writing}
 use Rattle.node_events.specs.Made.{Made, sent, SendsAll, entered, answered}
-use Rattle.node_core.specs.Held.{Held, IsWhole, AreOf, HaveLeft, bound_of}
+use Rattle.node_core.specs.CoreState.{CoreState, IsWhole, AreOf, HaveLeft, bound_of}
 use Rattle.node_core.specs.Joining.{Welcomes, TellsToAdmit, join_by, kill_one, put_names, remove_names, IsAdmitting, IsWelcomeTo}
 use Rattle.node_events.specs.Letters.{letter_of}
 use Rattle.node_core.specs.Seen.{node_of, turn_of, current_of}
@@ -59,18 +59,18 @@ use Rattle.node_core.proofs.Locking.{made_as}
 use Rattle.node_core.proofs.Gone.{more_within, more_is, stands}
 
 -- an answer more
-answered_is : (h : Held) (t : Made) (s : Answer)
+answered_is : (h : CoreState) (t : Made) (s : Answer)
     → turn_of h (answered s t) ≡ reply_with s.node s.call (reply_of s.reply) (turn_of h t)
 answered_is h t s = ap (λ (ss : List AnyAnswer). record (turn_of h t) { answers = ss })
     (map-append answer_of t.answers (s ∷ []))
 
 -- a process that lives here dies, and every member is to release its locks
-pub kills_one : (h k : Held) (w : Watch) (cs : LockCalls) (t u : Made) (p r : Process) (lived : Bool) → IsWhole k
+pub kills_one : (h k : CoreState) (w : WatchState) (cs : LockCallsState) (t u : Made) (p r : Process) (lived : Bool) → IsWhole k
     → k ≡ h → IsNodeSet k.members → lived ≡ true → lived ≡ is_live k.watch.node k.watch.watch p
     → w.watch ≡ with_killed k.watch.node p k.watch.watch → seen cs ≡ drop_call p (seen k.calls) → r ≡ p
     → SendsAll k.members (ReleaseOf r) t u → Makes (λ n a. kill_one n a p) h t (record k { watch = w; calls = cs }) u
 kills_one h k w cs t u p r lived whole same set is_so lived_is killed dropped releasing sends =
-    subst (λ (x : Held). Makes (λ n a. kill_one n a p) x t after u) same (record {
+    subst (λ (x : CoreState). Makes (λ n a. kill_one n a p) x t after u) same (record {
       name = refl;
       world = refl;
       turn = sent_all_is after t u k.members (ReleaseOf p)
@@ -84,7 +84,7 @@ kills_one h k w cs t u p r lived whole same set is_so lived_is killed dropped re
     n : ℕ
     n = bound_of k.world
 
-    after : Held
+    after : CoreState
     after = record k { watch = w; calls = cs }
 
     known : AnyWatch → List LockCall → Turn
@@ -98,7 +98,7 @@ kills_one h k w cs t u p r lived whole same set is_so lived_is killed dropped re
     live = ap (λ (a : ℕ). is_live a k.watch.watch p) (sym whole.watch) ∙ sym lived_is ∙ is_so
 
 -- one more of the changes that are written in turn
-pub writes_next : {A : Type 0} (to : A → Change) (h k m : Held) (t : Made) (items : List A) (i : ℕ) (e d f : A)
+pub writes_next : {A : Type 0} (to : A → Change) (h k m : CoreState) (t : Made) (items : List A) (i : ℕ) (e d f : A)
     → i < length items → e ≡ get_or items i e → d ≡ e → f ≡ d
     → Makes (λ n a. with_replica (λ v. fold (λ replica b. wrote (to b) replica) v (take i items))) h t k t
     → Makes (λ n a. with_replica (wrote (to f))) k t m t
@@ -120,11 +120,11 @@ writes_next {A} to h k m t items i e d f l is same copied before next =
     write_all bs = fold write node.replica bs
 
 -- the node adds notices to those of its processes
-pub notes : (h h1 : Held) (t : Made) (lists : List (ℕ × List Notice)) (fate : Fate) (notices : List Noted) → h ≡ h1
+pub notes : (h h1 : CoreState) (t : Made) (lists : List (ℕ × List Notice)) (fate : Fate) (notices : List Noted) → h ≡ h1
     → ((serial : ℕ) → list_under serial lists ≡ list_under serial h.notices ++ notices_to (process_of h.name serial) notices)
     → fate.notices ≡ notices → Makes (λ n a. with_replica (noted a fate)) h1 t (record h { notices = lists }) t
 notes h h1 t lists fate notices same more is =
-    subst (λ (x : Held). Makes (λ n a. with_replica (noted a fate)) x t (record h { notices = lists }) t) same (record {
+    subst (λ (x : CoreState). Makes (λ n a. with_replica (noted a fate)) x t (record h { notices = lists }) t) same (record {
       name = refl;
       world = refl;
       turn = ap (λ (ns : ℕ → List Notice). record (turn_of h t) {
@@ -134,13 +134,13 @@ notes h h1 t lists fate notices same more is =
     })
 
 -- h is the node, which is welcomed; told: all of whom it is told then
-pub record IsTold (h : Held) (body : Welcome) (told : List ℕ) : Type 0 where
+pub record IsTold (h : CoreState) (body : Welcome) (told : List ℕ) : Type 0 where
   pub left : HaveLeft h.world told
   pub here : with_older told h.name ≡ false
   pub are : IsWelcomeTo h.world h.name body → with_older told ≡ (λ c. with_older h.told c || with_older body.told c)
 
 -- either: those that it or its sponsor was told of
-module _ (h : Held) (body : Welcome) (either : List ℕ) (whole : IsWhole h)
+module _ (h : CoreState) (body : Welcome) (either : List ℕ) (whole : IsWhole h)
     (both : (c : ℕ) → with_older either c
     ≡ (with_older h.world c && (with_older h.told c || with_older body.told c))) where
   -- it is told of these, where it isn't one of them
@@ -179,12 +179,12 @@ module _ (h : Held) (body : Welcome) (either : List ℕ) (whole : IsWhole h)
       never w false true p q e = cc
 
 -- rest: the members of the welcome that haven't left
-module _ (h : Held) (body : Welcome) (told rest members : List ℕ) (table : Table) (v : Watch) (whole : IsWhole h)
+module _ (h : CoreState) (body : Welcome) (told rest members : List ℕ) (table : Table) (v : WatchState) (whole : IsWhole h)
     (known : IsTold h body told)
     (stay : (c : ℕ) → set_of rest c ≡ (set_of body.members c && not (with_older told c)))
     (are : (c : ℕ) → set_of members c ≡ (set_of h.world c && (set_of rest c || (c == h.name)))) where
   -- the node once it has moved in
-  abbrev moved : Held
+  abbrev moved : CoreState
   moved = record h { members = members; told = told; joined = true; table = table; watch = v }
 
   pub whole_moved : v.node ≡ h.watch.node → AreSuspected v table → IsWhole moved
@@ -254,12 +254,12 @@ module _ (h : Held) (body : Welcome) (told rest members : List ℕ) (table : Tab
             (at_name c e (with_older told) false known.here)
 
     -- the node has moved in
-    pub moves_in : (h1 : Held) (t : Made) → h ≡ h1 → v.watch ≡ h.watch.watch
+    pub moves_in : (h1 : CoreState) (t : Made) → h ≡ h1 → v.watch ≡ h.watch.watch
         → (is_rising body.pairs.items ≡ true → table ≡ without (with_older told) body.pairs.items)
         → Makes (λ n a. with_replica (joined_with (set_of body.members) body.pairs.items
         (λ c. with_older h1.told c || with_older body.told c))) h1 t moved t
     moves_in h1 t same watch pairs =
-        subst (λ (x : Held). Makes (λ n a. with_replica (joined_with (set_of body.members) body.pairs.items
+        subst (λ (x : CoreState). Makes (λ n a. with_replica (joined_with (set_of body.members) body.pairs.items
         (λ c. with_older x.told c || with_older body.told c))) x t moved t) same (record {
           name = refl;
           world = refl;
@@ -280,7 +280,7 @@ module _ (h : Held) (body : Welcome) (told rest members : List ℕ) (table : Tab
         }
 
 -- a node that hasn't left is a member from now on
-module _ (h : Held) (j : ℕ) (members : List ℕ) (whole : IsWhole h) (here : with_older h.told j ≡ false)
+module _ (h : CoreState) (j : ℕ) (members : List ℕ) (whole : IsWhole h) (here : with_older h.told j ≡ false)
     (are : (c : ℕ) → set_of members c ≡ (set_of h.world c && (set_of h.members c || (c == j)))) where
   pub whole_with_member : IsWhole (record h { members = members })
   whole_with_member = record {
@@ -308,10 +308,10 @@ module _ (h : Held) (j : ℕ) (members : List ℕ) (whole : IsWhole h) (here : w
       apart c false true member same e = ap (with_older h.told) (eqb-true c j same) ∙ here
       apart c false false member same e = cc
 
-  pub has_member : (h1 : Held) (t : Made) → h ≡ h1 → with_older h1.world j ≡ true
+  pub has_member : (h1 : CoreState) (t : Made) → h ≡ h1 → with_older h1.world j ≡ true
       → Makes (λ n a. with_replica (with_member j)) h1 t (record h { members = members }) t
   has_member h1 t same =
-      subst (λ (x : Held). with_older x.world j ≡ true
+      subst (λ (x : CoreState). with_older x.world j ≡ true
       → Makes (λ n a. with_replica (with_member j)) x t (record h { members = members }) t) same (λ started. record {
         name = refl;
         world = refl;
@@ -351,7 +351,7 @@ joining_is f k (Current.Waiting op) e = cc
 joining_is f k (Current.Writing op asked awaited reply) e = cc
 
 -- a node that moves in and then adds notices to those of its processes is welcomed
-pub arrives : (h m k : Held) (t : Made) (members : Nodes) (pairs : Table) (told : Nodes) (fate : Fate)
+pub arrives : (h m k : CoreState) (t : Made) (members : Nodes) (pairs : Table) (told : Nodes) (fate : Fate)
     → Makes (λ n a. with_replica (joined_with members pairs (λ d. with_older h.told d || told d))) h t m t
     → Makes (λ n a. with_replica (noted a fate)) m t k t
     → Makes (λ n a. with_replica (welcomed a members pairs told fate)) h t k t
@@ -359,7 +359,7 @@ arrives h m k t members pairs told fate M N =
     let both = followed M N in record { name = both.name; world = both.world; turn = both.turn }
 
 -- a join is granted: the registrar is free, the node moves in, those that clash die, and it is answered
-pub welcomes : (h0 h m k : Held) (t u v x : Made) (f d k0 : ℕ) (w : Work) (body : Welcome) (s : Answer) (number : ℕ → ℕ)
+pub welcomes : (h0 h m k : CoreState) (t u v x : Made) (f d k0 : ℕ) (w : Work) (body : Welcome) (s : Answer) (number : ℕ → ℕ)
     → h0 ≡ h → Some k0 ≡ join_by f (node_of h).current → w ≡ record h0.registrar { current = None; awaited = [] }
     → Makes (λ n a. with_replica (welcomed a (set_of body.members) body.pairs.items (with_older body.told) (fate_in body)))
     (record h0 { registrar = w }) t m t
@@ -368,7 +368,7 @@ pub welcomes : (h0 h m k : Held) (t u v x : Made) (f d k0 : ℕ) (w : Work) (bod
     → Makes (λ n a y. welcome n a number f (set_of body.members) body.pairs.items (with_older body.told) (fate_in body)
     y.node.current y) h t k x
 welcomes h0 h m k t u v x f d k0 w body s number same waits free M K answer answering to sending =
-    subst (λ (y : Held). Some k0 ≡ join_by f (node_of y).current → Makes (λ n a z. welcome n a number f
+    subst (λ (y : CoreState). Some k0 ≡ join_by f (node_of y).current → Makes (λ n a z. welcome n a number f
     (set_of body.members) body.pairs.items (with_older body.told) (fate_in body) z.node.current z) y t k x) same
     (λ waits0. record {
       name = both.name;
@@ -406,7 +406,7 @@ welcomes h0 h m k t u v x f d k0 w body s number same waits free M K answer answ
 
 -- a joiner is admitted: it is a member, the names are put, others are removed, notices are added, those that clash die, and it is
 -- acknowledged
-pub admits : (h h1 h2 h3 h4 k : Held) (t u x : Made) (f d : ℕ) (body : Admission)
+pub admits : (h h1 h2 h3 h4 k : CoreState) (t u x : Made) (f d : ℕ) (body : Admission)
     → Makes (λ n a. with_replica (with_member body.joiner)) h t h1 t
     → Makes (λ n a. with_replica (put_names body.puts.items)) h1 t h2 t
     → Makes (λ n a. with_replica (remove_names body.removes.items)) h2 t h3 t
@@ -463,18 +463,18 @@ writes (Some x) op asked all e =
     ap (λ (y : AnyOp). Current.Writing y (set_of asked) (set_of all) None) same
 
 -- a joiner is sent all that a node has
-pub welcomed_by : (h0 h : Held) (j k : ℕ) (s : Settled) (t u : Made) (m : Letter) → h0 ≡ h → letter_of m
+pub welcomed_by : (h0 h : CoreState) (j k : ℕ) (s : Settled) (t u : Made) (m : Letter) → h0 ≡ h → letter_of m
     ≡ AnyLetter.Welcome (with_node j (set_of h0.members)) (with_settled s h0.table) (with_older h0.told) s.fate
     → k ≡ j → u ≡ sent k m t → Welcomes h j s t u
 welcomed_by h0 h j k s t u m same is to sends =
-    subst (λ (x : Held). Welcomes x j s t u) same (m, is, sends ∙ ap (λ (c : ℕ). sent c m t) to)
+    subst (λ (x : CoreState). Welcomes x j s t u) same (m, is, sends ∙ ap (λ (c : ℕ). sent c m t) to)
 
 -- the members are told to admit it
-pub admits_by : (h0 h : Held) (j : ℕ) (s : Settled) (t u : Made) (l : Letter) → h0 ≡ h
+pub admits_by : (h0 h : CoreState) (j : ℕ) (s : Settled) (t u : Made) (l : Letter) → h0 ≡ h
     → letter_of l ≡ AnyLetter.Admit j s → SendsAll h0.members l t u → TellsToAdmit h j s t u
-admits_by h0 h j s t u l same is sends = subst (λ (x : Held). TellsToAdmit x j s t u) same (l, is, sends)
+admits_by h0 h j s t u l same is sends = subst (λ (x : CoreState). TellsToAdmit x j s t u) same (l, is, sends)
 
-pub lets_in : (h0 h : Held) (t u v x : Made) (w : Work) (asked all : List ℕ) (a j j1 j2 : ℕ) (l m : Letter)
+pub lets_in : (h0 h : CoreState) (t u v x : Made) (w : Work) (asked all : List ℕ) (a j j1 j2 : ℕ) (l m : Letter)
     (s : Settled) (pairs : Table)
     → h0 ≡ h → IsWhole h0 → set_of h0.world j ≡ true → IsNodeSet h0.members
     → ((c : ℕ) → set_of all c ≡ (set_of h0.world c && (set_of h0.members c || (c == j))))
@@ -487,7 +487,7 @@ pub lets_in : (h0 h : Held) (t u v x : Made) (w : Work) (asked all : List ℕ) (
     (record h0 { registrar = w; phase = Writing asked None }) x
 lets_in h0 h t u v x w asked all a j j1 j2 l m s pairs same whole of set are awaits joiner own entering admit_it admits
     welcoming to sends admitting =
-    subst (λ (y : Held). IsAdmitting y j pairs → Makes (λ n b. admit n b unnumbered j pairs (set_of asked) s) y t k x)
+    subst (λ (y : CoreState). IsAdmitting y j pairs → Makes (λ n b. admit n b unnumbered j pairs (set_of asked) s) y t k x)
     same (λ current. record {
       name = refl;
       world = refl;
@@ -513,7 +513,7 @@ lets_in h0 h t u v x w asked all a j j1 j2 l m s pairs same whole of set are awa
     n : ℕ
     n = bound_of h0.world
 
-    k : Held
+    k : CoreState
     k = record h0 { registrar = w; phase = Writing asked None }
 
     welcome_letter : AnyLetter
@@ -521,7 +521,7 @@ lets_in h0 h t u v x w asked all a j j1 j2 l m s pairs same whole of set are awa
         AnyLetter.Welcome (with_node j (set_of h0.members)) (with_settled s h0.table) (with_older h0.told) s.fate
 
 -- j, which has not left, is let in
-pub lets_pass : (h0 h k : Held) (t u : Made) (asked : List ℕ) (j : ℕ) (pairs : Table) (s : Settled) → h0 ≡ h
+pub lets_pass : (h0 h k : CoreState) (t u : Made) (asked : List ℕ) (j : ℕ) (pairs : Table) (s : Settled) → h0 ≡ h
     → with_older h0.told j ≡ false → s ≡ settle h.table pairs
     → Makes (λ n a. admit n a unnumbered j pairs (set_of asked) s) h t k u
     → Makes (λ n a. held n a unnumbered (AnyOp.Admission j pairs) (set_of asked)) h t k u
@@ -530,14 +530,14 @@ lets_pass h0 h k t u asked j pairs s same here settled M = made_as M (
     ∙ ap (λ (gone : Bool). if gone
     then finish n h.name (AnyOp.Admission j pairs) (set_of asked) None (turn_of h t)
     else admit n h.name unnumbered j pairs (set_of asked) (settle h.table pairs) (turn_of h t))
-    (sym here ∙ ap (λ (y : Held). with_older y.told j) same)
+    (sym here ∙ ap (λ (y : CoreState). with_older y.told j) same)
     )
   where
     n : ℕ
     n = bound_of h.world
 
 -- the current operation is this admission, so what is decided of this is decided of it
-pub decides_admission : (h k : Held) (t u : Made) (asked : List ℕ) (j : ℕ) (pairs : Table) → IsAdmitting h j pairs
+pub decides_admission : (h k : CoreState) (t u : Made) (asked : List ℕ) (j : ℕ) (pairs : Table) → IsAdmitting h j pairs
     → Makes (λ n a. held n a unnumbered (AnyOp.Admission j pairs) (set_of asked)) h t k u
     → Works (λ op n a. held n a unnumbered op (set_of asked)) h t k u
 decides_admission h k t u asked j pairs admitting M op current =

@@ -12,7 +12,7 @@ use Rattle.lock_table.specs.Verdicts.{verdict_of, asked}
 use Rattle.term.specs.declared.lock_id.LockId.{LockId}
 use Rattle.node_events.specs.declared.events.Letter.TheVariants.{LockAnswer}
 use Rattle.node_events.specs.Made.{Made, sent}
-use Rattle.node_core.specs.Held.{Held}
+use Rattle.node_core.specs.CoreState.{CoreState}
 use Rattle.node_core.specs.Seen.{turn_of, is_granted}
 use Rattle.node_core.specs.Steps.{Makes}
 use Rattle.node_core.proofs.Sends.{sent_is}
@@ -23,28 +23,28 @@ granted_is None = refl
 granted_is (Some id) = refl
 
 -- the lock table, as the turn has it
-locks_are : (b : Bool) (h : Held) (t : Made) (id : Id) (p : Process)
+locks_are : (b : Bool) (h : CoreState) (t : Made) (id : Id) (p : Process)
     → turn_of (record h { locks = if b then grant id p h.locks else h.locks }) t
     ≡ (if b then with_locks (grant id p) (turn_of h t) else turn_of h t)
 locks_are true h t id p = refl
 locks_are false h t id p = refl
 
 -- the lock table answers a node that asks
-pub judges : (k h : Held) (t u : Made) (from : ℕ) (id : LockId) (p : Process) (v : Verdict) (free : Bool)
+pub judges : (k h : CoreState) (t u : Made) (from : ℕ) (id : LockId) (p : Process) (v : Verdict) (free : Bool)
     (locks : Locks) → h ≡ k → v ≡ verdict_of (refused_for (id_of id) p h.locks) → free ≡ is_granted v
     → locks ≡ asked (id_of id) p h.locks → u ≡ sent from (LockAnswer id p free) t → (number : ℕ → ℕ)
     → Makes (λ n a w. judge n a number from (id_of id) p (is_free_for (id_of id) p w.node.locks) w) k t
     (record h { locks = locks }) u
 judges k h t u from id p v free locks same says is became made number =
-    subst (λ (x : Held). Makes rule x t next u) same makes
+    subst (λ (x : CoreState). Makes rule x t next u) same makes
   where
     lock : Id
     lock = id_of id
 
-    next : Held
+    next : CoreState
     next = record h { locks = locks }
 
-    after : Held
+    after : CoreState
     after = record h { locks = asked lock p h.locks }
 
     granted : Turn

@@ -19,18 +19,18 @@ use Rattle.protocol_model.specs.Reading.{told_of, lose_current, bereave}
 use Rattle.term.specs.NodeSets.{IsNodeSet, set_of, with_older, without_node}
 use Rattle.term.proofs.Older.{held}
 use Rattle.term.proofs.Subsets.{set_of-filter}
-use Rattle.exit_watch.specs.Held.{process_of}
+use Rattle.exit_watch.specs.WatchState.{process_of}
 use Rattle.exit_watch.proofs.Owners.{owns-filter}
-use Rattle.locker.specs.Held.{Held as HeldRound, seen}
+use Rattle.locker.specs.RoundState.{RoundState, seen}
 use Rattle.lock_calls.specs.declared.call.CallPhase.{CallPhase}
 use Rattle.lock_calls.specs.declared.call.CallPhase.TheVariants.{Asking as AsksLock}
 use Rattle.lock_calls.specs.declared.call.LockCall.{LockCall}
 use Rattle.lock_calls.specs.Calls.{as_call, phase_of as phase_of_call}
-use Rattle.lock_calls.specs.Held.{seen as calls_seen}
+use Rattle.lock_calls.specs.LockCallsState.{seen as calls_seen}
 use Rattle.node_events.specs.declared.events.Entry.TheVariants.{Left, Told}
 use Rattle.node_events.specs.declared.events.Letter.TheVariants.{Down}
 use Rattle.node_events.specs.Made.{Made, SendsAll, entered}
-use Rattle.node_core.specs.Held.{Held, bound_of, AreOf, IsWithin, IsWhole}
+use Rattle.node_core.specs.CoreState.{CoreState, bound_of, AreOf, IsWithin, IsWhole}
 use Rattle.node_core.specs.Locking.{loss_of}
 use Rattle.node_core.specs.Seen.{node_of, turn_of}
 use Rattle.node_core.specs.Steps.{Makes, IsOther}
@@ -41,7 +41,7 @@ use Rattle.node_core.proofs.Locking.{made_as}
 use Rattle.node_core.proofs.Gone.{told_is, left_too}
 
 -- the node leaves, and says so to all others
-pub leaves : (h : Held) (t u v : Made) (a : ℕ) (others : List ℕ) → a ≡ h.name → u ≡ entered (Left a) t
+pub leaves : (h : CoreState) (t u v : Made) (a : ℕ) (others : List ℕ) → a ≡ h.name → u ≡ entered (Left a) t
     → others ≡ without_node h.world h.name → IsNodeSet others → SendsAll others Down u v
     → Makes (λ n b. event n b (set_of h.world) AnyEvent.Leave) h t h v
 leaves h t u v a others own entering are set sends = record {
@@ -60,12 +60,12 @@ leaves h t u v a others own entering are set sends = record {
     n = bound_of h.world
 
 -- h is the node, which is told that f has left; told: all of whom it is told then
-module _ (h0 : Held) (f : ℕ) (members told : List ℕ) (table : Table) (locks : Locks) (whole : IsWhole h0)
+module _ (h0 : CoreState) (f : ℕ) (members told : List ℕ) (table : Table) (locks : Locks) (whole : IsWhole h0)
     (less : members ≡ without_node h0.members f) (rest : table ≡ without (λ d. d == f) h0.table)
     (are : (c : ℕ) → with_older told c
     ≡ (with_older h0.world c && (with_older h0.told c || with_older (f ∷ []) c))) where
   -- the node once it was told
-  abbrev told_node : Held
+  abbrev told_node : CoreState
   told_node = record h0 { members = members; told = told; table = table; locks = locks }
 
   pub whole_told : IsOther h0.world h0.name f → IsWhole told_node
@@ -115,11 +115,11 @@ module _ (h0 : Held) (f : ℕ) (members told : List ℕ) (table : Table) (locks 
       both false e is same = is
 
   -- the departure is entered, and taken in
-  pub takes_in : (h : Held) (t u : Made) (a d : ℕ) (number : ℕ → ℕ) → h0 ≡ h → a ≡ h0.name → d ≡ f
+  pub takes_in : (h : CoreState) (t u : Made) (a d : ℕ) (number : ℕ → ℕ) → h0 ≡ h → a ≡ h0.name → d ≡ f
       → locks ≡ drop_node f h0.locks → IsOther h0.world h0.name f → u ≡ entered (Told a d) t
       → Makes (λ n b. told_of n b number f) h t told_node u
   takes_in h t u a d number same own gone free other made =
-      subst (λ (x : Held). Makes (λ n b. told_of n b number f) x t told_node u) same (record {
+      subst (λ (x : CoreState). Makes (λ n b. told_of n b number f) x t told_node u) same (record {
         name = refl;
         world = refl;
         turn = ap (turn_of told_node) (made ∙ ap (λ (b : ℕ). entered (Told b d) t) own
@@ -148,13 +148,13 @@ module _ (h0 : Held) (f : ℕ) (members told : List ℕ) (table : Table) (locks 
       }
 
 -- h is the node, whose process p has the call c when it is told that f has gone down
-module _ (h k : Held) (t u : Made) (c : LockCall) (p : Process) (f : ℕ)
+module _ (h k : CoreState) (t u : Made) (c : LockCall) (p : Process) (f : ℕ)
     (found : Some (as_call c) ≡ call_of p (calls_seen h.calls)) where
   abbrev n0 : ℕ
   n0 = bound_of h.world
 
   -- its round is told
-  pub loses_round : (r r2 : HeldRound) → c.phase ≡ AsksLock r → seen r2 ≡ down f (seen r)
+  pub loses_round : (r r2 : RoundState) → c.phase ≡ AsksLock r → seen r2 ≡ down f (seen r)
       → Makes (λ n a. go_on_lock n a (as_call c) (seen r2)) h t k u
       → Makes (λ n a w. loss_of n a f (call_of p w.node.calls) w) h t k u
   loses_round r r2 asking fell M = made_as M (
@@ -163,7 +163,7 @@ module _ (h k : Held) (t u : Made) (c : LockCall) (p : Process) (f : ℕ)
       ∙ ap (λ (o : Option AnyCall). loss_of n0 h.name f o (turn_of h t)) found)
 
 -- told, a join, the registrar, the lock calls
-pub bereaves : (h k j l m : Held) (t u s v w : Made) (f : ℕ) (number : ℕ → ℕ)
+pub bereaves : (h k j l m : CoreState) (t u s v w : Made) (f : ℕ) (number : ℕ → ℕ)
     → Makes (λ n a. told_of n a number f) h t k u → Makes (λ n a x. lose_contact n a f x.node.current x) k u j s
     → Makes (λ n a. lose_current n a number f) j s l v
     → Makes (λ n a. lose_node n a f) l v m w → Makes (λ n a. bereave n a number f) h t m w

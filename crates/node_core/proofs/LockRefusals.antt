@@ -11,7 +11,7 @@ use Rattle.protocol_model.specs.Watch.{is_live}
 use Rattle.term.specs.LockIds.{global_text}
 use Rattle.node_events.specs.declared.events.StepFault.{StepFault}
 use Rattle.node_events.specs.declared.events.StepFault.TheVariants.{NotLive, Busy, Reserved, UnknownNode, AlreadyJoined, NoSuchProcess, AlreadyExited, SerialsSpent, NothingToRetry, HoldsLock, CallsSpent, Memory}
-use Rattle.node_core.specs.Held.{Held, IsWhole}
+use Rattle.node_core.specs.CoreState.{CoreState, IsWhole}
 use Rattle.node_core.specs.Seen.{node_of}
 use Rattle.node_events.specs.Seen.{fault_of}
 use Rattle.node_core.specs.Steps.{cause_of}
@@ -28,11 +28,11 @@ first_of_lock p live busy reserved =
     else (if busy then Some (refused.Busy p) else (if reserved then Some refused.Reserved else None))
 
 -- a live process with no call is refused where the resource is `global`
-pub reserves : (h k : Held) (p : Process) (r g : Text) → IsWhole k → k ≡ h
+pub reserves : (h k : CoreState) (p : Process) (r g : Text) → IsWhole k → k ≡ h
     → is_live k.watch.node k.watch.watch p ≡ true → is_some (call_of p (node_of k).calls) ≡ false → g ≡ global_text
     → cause_of (then_some (r == g) Reserved) ≡ first_cause (lock_causes h.name (node_of h) p r)
 reserves h k p r g whole same live free global =
-    subst (λ (x : Held). cause_of (then_some (r == g) Reserved) ≡ first_cause (lock_causes x.name (node_of x) p r)) same
+    subst (λ (x : CoreState). cause_of (then_some (r == g) Reserved) ≡ first_cause (lock_causes x.name (node_of x) p r)) same
     (subst (λ (a : ℕ). cause_of (then_some (r == g) Reserved) ≡ first_cause (lock_causes a (node_of k) p r)) whole.watch
     (ap (λ (t : Text). cause_of (then_some (r == t) Reserved)) (global ∙ is_global) ∙ go (r == global_resource)
     ∙ sym (ap (λ (b : Bool). first_of_lock p b (is_some (call_of p (node_of k).calls)) (r == global_resource)) live

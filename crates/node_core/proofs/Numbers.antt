@@ -24,7 +24,7 @@ use Rattle.protocol_model.specs.Calling.{die, kill, queued, looked, call, event}
 use Rattle.node_events.specs.declared.events.Entry.{Entry}
 use Rattle.node_events.specs.declared.events.Entry.TheVariants.{Name, Strike, Exit, Done, Read, Left, Told, Joined as HasJoined, NotMember as IsRefused, ContactLeft as LostContact}
 use Rattle.node_events.specs.Made.{Made}
-use Rattle.node_core.specs.Held.{Held}
+use Rattle.node_core.specs.CoreState.{CoreState}
 use Rattle.node_core.specs.Seen.{turn_of, turn_by}
 use Rattle.node_events.specs.Seen.{entry_of, entry_by, unnumbered}
 
@@ -51,7 +51,7 @@ entry_numbered number (IsRefused j m) = refl
 entry_numbered number (LostContact j k m) = refl
 
 -- a node's turn with the numbers is its turn without them, once they are given
-pub turn_numbered : (number : ℕ → ℕ) (h : Held) (t : Made) → turn_by number h t ≡ numbered number (turn_of h t)
+pub turn_numbered : (number : ℕ → ℕ) (h : CoreState) (t : Made) → turn_by number h t ≡ numbered number (turn_of h t)
 turn_numbered number h t = ap (λ (es : List AnyEntry). record (turn_of h t) { entries = es })
     (ap (λ (f : Entry → AnyEntry). map f t.entries) (fun_ext (entry_numbered number))
     ∙ sym (map-map (with_number number) entry_of t.entries))

@@ -10,7 +10,7 @@ use Rattle.protocol_model.specs.Node.{Node, opening_node}
 use Rattle.term.specs.Nodes.{IsFirst}
 use Rattle.term.specs.NodeSets.{set_of, with_older}
 use Rattle.term.proofs.Older.{first_alone}
-use Rattle.node_core.specs.Held.{Held, AreOf, HaveLeft, fresh, fresh_behind}
+use Rattle.node_core.specs.CoreState.{CoreState, AreOf, HaveLeft, fresh, fresh_behind}
 use Rattle.node_core.proofs.Gone.{one_way}
 use Rattle.node_core.specs.Seen.{node_of}
 
@@ -42,7 +42,7 @@ opens a world members joined own is =
     }
 
 -- the same of a node that is behind no departure
-pub opens_at : (h : Held) (a : ℕ) (world members left : List ℕ) (joined : Bool) → left ≡ []
+pub opens_at : (h : CoreState) (a : ℕ) (world members left : List ℕ) (joined : Bool) → left ≡ []
     → h ≡ fresh_behind a world members left joined → set_of members a ≡ true → joined ≡ true
     → node_of h ≡ opening_node (set_of members) a
 opens_at h a world members left joined nobody_left same own is =

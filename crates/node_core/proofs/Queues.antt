@@ -12,18 +12,18 @@ use Rattle.transaction.specs.declared.op.Op.TheVariants.{Join}
 use Rattle.transaction.specs.Ops.{op_of}
 use Rattle.transaction.specs.Work.{Work, started, starts, begins_with_join}
 use Rattle.node_events.specs.Made.{Made}
-use Rattle.node_core.specs.Held.{Held, IsWhole, IsOpWithin, IsCurrentWithin, bound_of}
+use Rattle.node_core.specs.CoreState.{CoreState, IsWhole, IsOpWithin, IsCurrentWithin, bound_of}
 use Rattle.node_core.specs.Rare.{joins_in, Adds}
 use Rattle.node_core.specs.Seen.{node_of, turn_of}
 use Rattle.node_core.specs.Steps.{Makes}
 use Rattle.node_core.proofs.Whole.{IsWorkWithin, whole_at}
 
 -- the queue of h, at t: what it comes to
-abbrev pub queue_turn : ℕ → ℕ → Held → Made → Turn
+abbrev pub queue_turn : ℕ → ℕ → CoreState → Made → Turn
 queue_turn n a h t = start_queue n a (node_of h).queue (turn_of h t)
 
 -- The loop over the queue, which began with h and t, is at k and u: nothing is current, and it comes to the same
-pub record IsAtQueue (h : Held) (t : Made) (k : Held) (u : Made) : Type 0 where
+pub record IsAtQueue (h : CoreState) (t : Made) (k : CoreState) (u : Made) : Type 0 where
   pub free : k.registrar.current ≡ None
   pub name : k.name ≡ h.name
   pub world : k.world ≡ h.world
@@ -48,9 +48,9 @@ queue_is_left n a (AnyOp.Join k m ∷ ops) qs u =
     go false e = refl
 
 -- h is the node in the loop, and w its registrar once it has started what is next
-module _ (f h : Held) (s t : Made) (w : Work) (at : IsAtQueue f s h t) (begun : w ≡ started None h.registrar) where
+module _ (f h : CoreState) (s t : Made) (w : Work) (at : IsAtQueue f s h t) (begun : w ≡ started None h.registrar) where
   -- the node then
-  abbrev node_at : Work → Held
+  abbrev node_at : Work → CoreState
   node_at x = record h { registrar = x }
 
   abbrev n0 : ℕ
@@ -113,7 +113,7 @@ module _ (f h : Held) (s t : Made) (w : Work) (at : IsAtQueue f s h t) (begun : 
       }
 
   -- a join whose contact hasn't left begins, and the loop ends
-  pub asks_at : (k : Held) (u : Made) (i m : ℕ) → starts None h.registrar ≡ true → w.current ≡ Some (Join i m)
+  pub asks_at : (k : CoreState) (u : Made) (i m : ℕ) → starts None h.registrar ≡ true → w.current ≡ Some (Join i m)
       → with_older h.told m ≡ false → Makes (λ n a. ask_join n a i m) (node_at w) t k u
       → Makes (λ n a v. start_queue n a v.node.queue v) f s k u
   asks_at k u i m some cur here M =
@@ -131,7 +131,7 @@ module _ (f h : Held) (s t : Made) (w : Work) (at : IsAtQueue f s h t) (begun : 
       }
 
 -- of what was started, all that it knows of has started
-started_within : (h : Held) (w : Work) → IsWhole h → w ≡ started None h.registrar → IsWorkWithin h.world w
+started_within : (h : CoreState) (w : Work) → IsWhole h → w ≡ started None h.registrar → IsWorkWithin h.world w
 started_within h w whole begun = subst (IsWorkWithin h.world) (sym begun)
     (go h.registrar.current h.registrar.queue whole.current whole.queue)
   where
@@ -146,12 +146,12 @@ started_within h w whole begun = subst (IsWorkWithin h.world) (sym begun)
     go (Some op) ops c q = record { queue = q; current = c; awaited = whole.awaited }
 
 -- the next operation is current
-pub whole_started : (h : Held) (w : Work) → IsWhole h → w ≡ started None h.registrar
+pub whole_started : (h : CoreState) (w : Work) → IsWhole h → w ≡ started None h.registrar
     → IsWhole (record h { registrar = w })
 whole_started h w whole begun = whole_at h w whole (started_within h w whole begun)
 
 -- and has ended
-pub whole_freed : (h : Held) (w w2 : Work) → IsWhole h → w ≡ started None h.registrar
+pub whole_freed : (h : CoreState) (w w2 : Work) → IsWhole h → w ≡ started None h.registrar
     → w2 ≡ record w { current = None; awaited = [] } → IsWhole (record h { registrar = w2 })
 whole_freed h w w2 whole begun ended = whole_at h w2 whole (subst (IsWorkWithin h.world) (sym ended) (record {
   queue = (started_within h w whole begun).queue;
@@ -160,7 +160,7 @@ whole_freed h w w2 whole begun ended = whole_at h w2 whole (subst (IsWorkWithin 
 }))
 
 -- the contact of the join that was started has started
-pub contact_within : (h : Held) (w : Work) (i m : ℕ) → IsWhole h → w ≡ started None h.registrar
+pub contact_within : (h : CoreState) (w : Work) (i m : ℕ) → IsWhole h → w ≡ started None h.registrar
     → w.current ≡ Some (Join i m) → with_older h.world m ≡ true
 contact_within h w i m whole begun cur = subst (IsCurrentWithin h.world) cur (started_within h w whole begun).current
 

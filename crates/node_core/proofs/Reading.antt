@@ -13,7 +13,7 @@ use Rattle.node_events.specs.declared.events.Letter.TheVariants.{Down}
 use Rattle.node_events.specs.declared.events.Event.{Event}
 use Rattle.node_events.specs.declared.events.Event.TheVariants.{FromPeer}
 use Rattle.node_events.specs.Made.{Made}
-use Rattle.node_core.specs.Held.{Held, bound_of}
+use Rattle.node_core.specs.CoreState.{CoreState, bound_of}
 use Rattle.node_events.specs.Letters.{letter_of}
 use Rattle.node_core.specs.Seen.{turn_of}
 use Rattle.node_events.specs.Seen.{unnumbered}
@@ -22,7 +22,7 @@ use Rattle.node_core.specs.Rare.{is_admission, moves_names, is_rare}
 use Rattle.node_core.specs.Steps.{Makes, Takes, IsAsBefore, IsOther, IsSaidBy}
 
 -- an answer goes to the round of its holder: p is who it is for, and q the registrar
-module _ (h k : Held) (t u : Made) (f : ℕ) (p q : Process) (g : Bool) (is : q ≡ registrar h.name)
+module _ (h k : CoreState) (t u : Made) (f : ℕ) (p q : Process) (g : Bool) (is : q ≡ registrar h.name)
     (number : ℕ → ℕ) where
   -- one of the two rounds hears it
   abbrev heard_by : Bool → Turn
@@ -53,7 +53,7 @@ module _ (h k : Held) (t u : Made) (f : ℕ) (p q : Process) (g : Bool) (is : q 
   hears_other other m = record { name = m.name; world = m.world; turn = m.turn ∙ heard_is false other }
 
 -- what is read is this letter
-pub reads : (h k : Held) (t u : Made) (f : ℕ) (l m : Letter) → l ≡ m → (number : ℕ → ℕ)
+pub reads : (h k : CoreState) (t u : Made) (f : ℕ) (l m : Letter) → l ≡ m → (number : ℕ → ℕ)
     → Makes (λ n a. read n a number f (letter_of m)) h t k u → Makes (λ n a. read n a number f (letter_of l)) h t k u
 reads h k t u f l m is number made = subst (λ (x : Letter). Makes (λ n a. read n a number f (letter_of x)) h t k u)
     (sym is) made
@@ -63,7 +63,7 @@ pub said_down : (world : List ℕ) (a f : ℕ) (l : Letter) → l ≡ Down → I
 said_down world a f l is said = subst (λ (m : Letter). IsSaidBy world a f m) is said
 
 -- a letter's event is taken
-pub takes_letter : {A E : Type 0} (result : Result A E) (e : Event) (f : ℕ) (l : Letter) (h k : Held) (t u : Made)
+pub takes_letter : {A E : Type 0} (result : Result A E) (e : Event) (f : ℕ) (l : Letter) (h k : CoreState) (t u : Made)
     → e ≡ FromPeer f l
     → (IsSaidBy h.world h.name f l → OnOk result (Makes (λ n a. receive n a unnumbered f (letter_of l)) h t k u))
     → OnOk result (Takes e h t k u)
@@ -71,7 +71,7 @@ takes_letter (Ok x) e f l h k t u is each = subst (λ (y : Event). Takes y h t k
 takes_letter (Err x) e f l h k t u is each = tt
 
 -- where a letter moves no names and no join is at the front, the node is as before
-pub unchanged_by_letter : {A E : Type 0} (result : Result A E) (e : Event) (f : ℕ) (l : Letter) (h k : Held)
+pub unchanged_by_letter : {A E : Type 0} (result : Result A E) (e : Event) (f : ℕ) (l : Letter) (h k : CoreState)
     → e ≡ FromPeer f l
     → OnErr result (moves_names (is_admission h.registrar.current) l ≡ false
     → begins_with_join h.registrar.queue ≡ false → IsAsBefore h k)

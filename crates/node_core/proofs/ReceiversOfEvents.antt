@@ -18,7 +18,7 @@ use Rattle.protocol_model.specs.Client.{new_call, retry_locks}
 use Rattle.protocol_model.specs.Calling.{event, call, die}
 use Rattle.term.specs.NodeSets.{set_of, with_older}
 use Rattle.term.proofs.Older.{held}
-use Rattle.lock_calls.specs.Held.{seen}
+use Rattle.lock_calls.specs.LockCallsState.{seen}
 use Rattle.locker.proofs.Marks.{asked-seen}
 use Rattle.transaction.specs.declared.op.Op.{Op}
 use Rattle.transaction.specs.declared.op.Op.TheVariants.{Name as NameOp, Strike, Join as JoinOp, Admission as AdmissionOp}
@@ -33,7 +33,7 @@ use Rattle.node_events.specs.declared.events.Letter.TheVariants.{SetLock, LockAn
 use Rattle.node_core.specs.declared.node.Phase.{Phase}
 use Rattle.node_core.specs.declared.node.Phase.TheVariants.{Asking, Waiting, Writing, Joining}
 use Rattle.node_events.specs.Made.{Made}
-use Rattle.node_core.specs.Held.{Held, IsWhole, IsPhaseWithin, IsOpWithin, IsCurrentWithin, IsCallWithin, bound_of}
+use Rattle.node_core.specs.CoreState.{CoreState, IsWhole, IsPhaseWithin, IsOpWithin, IsCurrentWithin, IsCallWithin, bound_of}
 use Rattle.node_events.specs.Letters.{send_of, letter_of}
 use Rattle.node_core.specs.Seen.{node_of, turn_by, current_of}
 use Rattle.node_events.specs.Seen.{call_of}
@@ -97,7 +97,7 @@ module _ {n a : ℕ} {world : Nodes} where
       go (Current.Waiting op) of = asks op u of W
       go _ of = W
 
-module _ (h : Held) (whole : IsWhole h) (rising : is_rising h.table ≡ true) where
+module _ (h : CoreState) (whole : IsWhole h) (rising : is_rising h.table ≡ true) where
   abbrev n : ℕ
   n = bound_of h.world
 
@@ -278,7 +278,7 @@ module _ (h : Held) (whole : IsWhole h) (rising : is_rising h.table ≡ true) wh
   said t JoinRefused fit = tt
 
   -- so do the letters that it is made of
-  pub sends_within : (number : ℕ → ℕ) (e : Event) (k : Held) (made : Made) → IsHeardWithin h.world h.name e
+  pub sends_within : (number : ℕ → ℕ) (e : Event) (k : CoreState) (made : Made) → IsHeardWithin h.world h.name e
       → IsTurn number e h (turn_by number k made) → GoWithin h.world h.name made.letters
   sends_within number e k made heard is = λ i d l.
       let sent : IsSent h.name world (send_of (get_or made.letters i d)) =

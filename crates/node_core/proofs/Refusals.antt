@@ -13,16 +13,16 @@ use Rattle.node_events.specs.declared.events.StepFault.{StepFault}
 use Rattle.node_events.specs.declared.events.StepFault.TheVariants.{Memory}
 use Rattle.node_core.specs.declared.node.Phase.{Phase}
 use Rattle.node_core.specs.declared.node.Phase.TheVariants.{Asking, Waiting, Writing, Joining}
-use Rattle.node_core.specs.Held.{Held, IsWhole}
+use Rattle.node_core.specs.CoreState.{CoreState, IsWhole}
 use Rattle.node_core.specs.Seen.{node_of, current_of}
 use Rattle.node_events.specs.Seen.{step_fault_of, fault_of as fault_of_step}
 use Rattle.node_core.specs.Steps.{cause_of}
 
 -- a node refuses an event as its watch does
-pub refuses : (h k : Held) (e : AnyEvent) (refusal : Option Refusal) → IsWhole k → k ≡ h → Refuses e k.watch refusal
+pub refuses : (h k : CoreState) (e : AnyEvent) (refusal : Option Refusal) → IsWhole k → k ≡ h → Refuses e k.watch refusal
     → first_cause (causes h.name (node_of h) e) ≡ refusal
 refuses h k e refusal whole same why =
-    subst (λ (x : Held). first_cause (causes x.name (node_of x) e) ≡ refusal) same
+    subst (λ (x : CoreState). first_cause (causes x.name (node_of x) e) ≡ refusal) same
     (subst (λ (a : ℕ). first_cause (causes a (node_of k) e) ≡ refusal) whole.watch (why (node_of k) refl))
 
 -- a fault of the watch that is no refusal is want of memory
@@ -33,7 +33,7 @@ no_refusal fault.AlreadyExited e = cc
 no_refusal fault.Memory e = refl
 
 -- so it is where the node doesn't refuse the event
-pub wants_memory : (h k : Held) (e : AnyEvent) (f : WatchFault) → IsWhole k → k ≡ h → Refuses e k.watch (fault_of f)
+pub wants_memory : (h k : CoreState) (e : AnyEvent) (f : WatchFault) → IsWhole k → k ≡ h → Refuses e k.watch (fault_of f)
     → first_cause (causes h.name (node_of h) e) ≡ None → step_fault_of f ≡ Memory
 wants_memory h k e f whole same why accepted =
     no_refusal f (sym (refuses h k e (fault_of f) whole same why) ∙ accepted)
@@ -74,11 +74,11 @@ none_is_current None awaited p none = refl
 none_is_current (Some op) awaited p none = cc
 
 -- a lone node with no current join has one where one waits
-pub joins_where_waiting : (h0 h : Held) (waits : Bool) → h0 ≡ h → h0.joined ≡ false
+pub joins_where_waiting : (h0 h : CoreState) (waits : Bool) → h0 ≡ h → h0.joined ≡ false
     → is_joining (node_of h0).current ≡ false → waits ≡ list_any (λ op. is_join (op_of op)) h0.registrar.queue
     → waits ≡ has_joined (node_of h)
 joins_where_waiting h0 h waits same lone none is =
-    subst (λ (x : Held). waits ≡ has_joined (node_of x)) same (is ∙ all h0.registrar.queue
+    subst (λ (x : CoreState). waits ≡ has_joined (node_of x)) same (is ∙ all h0.registrar.queue
     ∙ ap (λ (b : Bool). b || list_any is_join (map op_of h0.registrar.queue)) (sym none)
     ∙ ap (λ (b : Bool). b || is_joining (node_of h0).current || list_any is_join (map op_of h0.registrar.queue))
     (sym lone))

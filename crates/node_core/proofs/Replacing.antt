@@ -6,12 +6,12 @@ use Rattle.protocol_model.specs.Node.{LockPhase}
 use Rattle.term.specs.Nodes.{name_of}
 use Rattle.term.specs.NodeSets.{set_of, with_older, succeeded}
 use Rattle.term.proofs.Older.{reaching, reached, closed, succeeded_is, succeeded_keeps}
-use Rattle.lock_calls.specs.Held.{seen}
+use Rattle.lock_calls.specs.LockCallsState.{seen}
 use Rattle.transaction.specs.declared.op.Op.{Op}
 use Rattle.transaction.specs.declared.op.Op.TheVariants.{Name, Strike, Join, Admission}
 use Rattle.node_core.specs.declared.node.Phase.{Phase}
 use Rattle.node_core.specs.declared.node.Phase.TheVariants.{Asking, Waiting, Writing, Joining}
-use Rattle.node_core.specs.Held.{Held, HaveLeft, IsNext, IsWhole, IsOpWithin, IsCurrentWithin, IsPhaseWithin, IsCallWithin}
+use Rattle.node_core.specs.CoreState.{CoreState, HaveLeft, IsNext, IsWhole, IsOpWithin, IsCurrentWithin, IsPhaseWithin, IsCallWithin}
 use Rattle.node_core.proofs.Gone.{one_way}
 
 -- a node isn't the one before it
@@ -112,7 +112,7 @@ module _ (world left : List ℕ) (older next : ℕ) (gone : HaveLeft world left)
   call_keeps (LockPhase.Deleting owing) w = λ c e. keeps c (w c e)
 
 -- a node that was told that another has left stays whole where the next of that name stands in its world
-pub whole_replaced : (h : Held) (w : List ℕ) (older next : ℕ) → IsWhole h → IsNext older next → set_of h.world older ≡ true
+pub whole_replaced : (h : CoreState) (w : List ℕ) (older next : ℕ) → IsWhole h → IsNext older next → set_of h.world older ≡ true
     → with_older h.told older ≡ true → w ≡ succeeded older next h.world → IsWhole (record h { world = w })
 whole_replaced h w older next whole is known away same =
     subst (λ (xs : List ℕ). IsWhole (record h { world = xs })) (sym same) (record {

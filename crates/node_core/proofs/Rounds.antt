@@ -12,13 +12,13 @@ use Rattle.protocol_model.specs.Registrar.{registrar, ask_global, ask_rest, star
 use Rattle.protocol_model.specs.Deciding.{held, end_by, end_round, hear_answer, lose}
 use Rattle.protocol_model.specs.Reading.{lose_current}
 use Rattle.protocol_model.specs.Watch.{Watch as AnyWatch, owed}
-use Rattle.exit_watch.specs.Held.{Held as Watch, process_of}
+use Rattle.exit_watch.specs.WatchState.{WatchState, process_of}
 use Rattle.term.specs.NodeSets.{IsNodeSet, set_of, with_older}
 use Rattle.boss_order.specs.Boss.{others_of}
 use Rattle.term.proofs.Subsets.{set_of-filter}
 use Rattle.locker.specs.declared.ending.Ending.{Ending}
 use Rattle.locker.specs.declared.ending.Ending.TheVariants.{Held as Holds, GiveBack}
-use Rattle.locker.specs.Held.{Held as HeldRound, seen}
+use Rattle.locker.specs.RoundState.{RoundState, seen}
 use Rattle.locker.specs.Ends.{EndsAs, end_of, granted_by, is_won}
 use Rattle.transaction.specs.declared.op.Op.{Op}
 use Rattle.transaction.specs.declared.op.Op.TheVariants.{Strike as StrikeOp}
@@ -28,7 +28,7 @@ use Rattle.node_events.specs.declared.events.Letter.{Letter}
 use Rattle.node_core.specs.declared.node.Phase.{Phase}
 use Rattle.node_core.specs.declared.node.Phase.TheVariants.{Asking}
 use Rattle.node_events.specs.Made.{Made, sent, SendsAll}
-use Rattle.node_core.specs.Held.{Held, bound_of, AreOf, IsWithin, IsPhaseWithin}
+use Rattle.node_core.specs.CoreState.{CoreState, bound_of, AreOf, IsWithin, IsPhaseWithin}
 use Rattle.node_events.specs.Letters.{letter_of}
 use Rattle.node_core.specs.Seen.{node_of, turn_of, current_of, phase_of}
 use Rattle.node_core.specs.Steps.{Makes, Works}
@@ -36,14 +36,14 @@ use Rattle.node_core.proofs.Bounds.{all_below, of_world}
 use Rattle.node_core.proofs.Sends.{sent_is, sent_all_is}
 
 -- the boss is asked
-pub asks_global : (h0 h : Held) (t u : Made) (b : ℕ) (l : Letter) (r : HeldRound) → h0 ≡ h
+pub asks_global : (h0 h : CoreState) (t u : Made) (b : ℕ) (l : Letter) (r : RoundState) → h0 ≡ h
     → AreOf h0.world h0.members
     → ((n : ℕ) → All (λ c. c < n) h0.members → b ≡ greatest n (set_of h0.members))
     → letter_of l ≡ AnyLetter.SetLock (Global h0.name) (registrar h0.name)
     → ((n : ℕ) → All (λ c. c < n) h0.members → seen r ≡ begin n (set_of h0.members))
     → u ≡ sent b l t → Works (λ op n a. ask_global n a op) h t (record h0 { phase = Asking r }) u
 asks_global h0 h t u b l r same are boss is begun made =
-    subst (λ (x : Held). Works (λ op n a. ask_global n a op) x t (record h0 { phase = Asking r }) u) same
+    subst (λ (x : CoreState). Works (λ op n a. ask_global n a op) x t (record h0 { phase = Asking r }) u) same
     (λ op cur. record {
       name = refl;
       world = refl;
@@ -56,7 +56,7 @@ asks_global h0 h t u b l r same are boss is begun made =
           ∙ ap (λ (x : Round). at_work (Current.Asking (op_of op) x) (turn_of h0 t)) (begun n below));
     })
   where
-    k : Held
+    k : CoreState
     k = record h0 { phase = Asking r }
 
     n : ℕ
@@ -82,7 +82,7 @@ first_passes true b e = refl
 first_passes false b e = e
 
 -- the rest are asked, but for those that have gone: ys, of xs
-pub asks_rest : (h : Held) (t u : Made) (r : HeldRound) (f : ℕ) (g : Bool) (xs ys : List ℕ) (l : Letter) → IsNodeSet ys
+pub asks_rest : (h : CoreState) (t u : Made) (r : RoundState) (f : ℕ) (g : Bool) (xs ys : List ℕ) (l : Letter) → IsNodeSet ys
     → IsWithin h.world r.nodes
     → xs ≡ others_of r.nodes → set_of xs ≡ rest (seen r)
     → ((c : ℕ) → set_of ys c ≡ (set_of xs c && not (with_older h.told c))) → opens f g (seen r) ≡ true
@@ -103,7 +103,7 @@ asks_rest h t u r f g xs ys l set within others is are first made = record {
 }
 
 -- the watch was asked for an owed strike, and then the registrar began
-module _ (h0 h : Held) (t : Made) (w : Work) (v : Watch) (strike : Option Process) (same : h0 ≡ h)
+module _ (h0 h : CoreState) (t : Made) (w : Work) (v : WatchState) (strike : Option Process) (same : h0 ≡ h)
     (watch : v.watch ≡ h0.watch.watch)
     (owes_it : strike ≡ option_map (process_of h0.watch) (owed h0.watch.node h0.table h0.watch.watch))
     (own : h0.watch.node ≡ h0.name) (begun : w ≡ started strike h0.registrar) where
@@ -120,7 +120,7 @@ module _ (h0 h : Held) (t : Made) (w : Work) (v : Watch) (strike : Option Proces
   at_ops cur ops = record h0.registrar { current = cur; queue = ops }
 
   -- the node, with this registrar, once its watch was asked
-  abbrev once_asked : Work → Held
+  abbrev once_asked : Work → CoreState
   once_asked x = record h0 { registrar = x; watch = record v { watch = h0.watch.watch } }
 
   -- the strike is the protocol's
@@ -133,10 +133,10 @@ module _ (h0 h : Held) (t : Made) (w : Work) (v : Watch) (strike : Option Proces
   begun_is = begun ∙ ap (λ (o : Option Process). started o h0.registrar) strike_is
 
   -- the strike that is owed begins
-  pub starts_strike : (k : Held) (u : Made) → is_some strike ≡ true → is_some h0.registrar.current ≡ false
+  pub starts_strike : (k : CoreState) (u : Made) → is_some strike ≡ true → is_some h0.registrar.current ≡ false
       → Works (λ op n a. ask_global n a op) (record h0 { registrar = w; watch = v }) t k u → Makes start h t k u
   starts_strike k u some free W =
-      subst (λ (x : Held). Makes start x t k u) same
+      subst (λ (x : CoreState). Makes start x t k u) same
       (go h0.registrar.current h0.registrar.queue free (ap is_some (sym strike_is) ∙ some)
       (subst (λ (x : Work). Works (λ op n a. ask_global n a op) (once_asked x) t k u) begun_is
       (subst (λ (x : AnyWatch). Works (λ op n a. ask_global n a op)
@@ -163,12 +163,12 @@ is_nothing None e = refl
 is_nothing (Some x) e = cc
 
 -- the watch was asked for an owed strike, and there was none: a free registrar begins what waits
-pub starts_waiting : (h0 h k : Held) (t u : Made) (v : Watch) (strike : Option Process) → h0 ≡ h → v.watch ≡ h0.watch.watch
+pub starts_waiting : (h0 h k : CoreState) (t u : Made) (v : WatchState) (strike : Option Process) → h0 ≡ h → v.watch ≡ h0.watch.watch
     → strike ≡ option_map (process_of h0.watch) (owed h0.watch.node h0.table h0.watch.watch) → h0.watch.node ≡ h0.name
     → is_some strike ≡ false → is_some h0.registrar.current ≡ false
     → Makes (λ n a x. start_queue n a x.node.queue x) (record h0 { watch = v }) t k u → Makes start h t k u
 starts_waiting h0 h k t u v strike same watch owes_it own nothing free M =
-    subst (λ (x : Held). Makes start x t k u) same (record {
+    subst (λ (x : CoreState). Makes start x t k u) same (record {
       name = M.name;
       world = M.world;
       turn = M.turn
@@ -204,7 +204,7 @@ failed_end xs IsHeld e = absurd e
 failed_end xs (GiveBackTo s) e = ap GiveBackTo (sym (fun_ext e))
 
 -- who gets it back was asked
-pub granted_within : (world members xs : List ℕ) (r : HeldRound) (e : Ending) → IsWithin world r.nodes → e
+pub granted_within : (world members xs : List ℕ) (r : RoundState) (e : Ending) → IsWithin world r.nodes → e
     ≡ end_of members r → e ≡ GiveBack xs → IsWithin world xs
 granted_within world members xs r e within value is = go (is_won members r) (sym is ∙ value)
   where
@@ -217,15 +217,15 @@ granted_within world members xs r e within value is = go (is_won members r) (sym
         same g = cc
 
 -- the nodes of a phase's round have started
-pub round_within : (world : List ℕ) (p : Phase) (r : HeldRound) → p ≡ Asking r → IsPhaseWithin world p
+pub round_within : (world : List ℕ) (p : Phase) (r : RoundState) → p ≡ Asking r → IsPhaseWithin world p
     → IsWithin world r.nodes
 round_within world p r is within = subst (λ (q : Phase). IsPhaseWithin world q) is within
 
 -- a phase has one round
-pub one_round : (p : Phase) (r s : HeldRound) → p ≡ Asking r → p ≡ Asking s → r ≡ s
+pub one_round : (p : Phase) (r s : RoundState) → p ≡ Asking r → p ≡ Asking s → r ≡ s
 one_round p r s e f = cc
 
-module _ (h0 h : Held) (t : Made) (r : HeldRound) (over : Bool) (same : h0 ≡ h) (asking : h0.phase ≡ Asking r)
+module _ (h0 h : CoreState) (t : Made) (r : RoundState) (over : Bool) (same : h0 ≡ h) (asking : h0.phase ≡ Asking r)
     (phase : IsPhaseWithin h0.world h0.phase)
     (ends : (n : ℕ) → All (λ c. c < n) r.nodes → over ≡ is_over n (seen r)) where
   abbrev n0 : ℕ
@@ -235,14 +235,14 @@ module _ (h0 h : Held) (t : Made) (r : HeldRound) (over : Bool) (same : h0 ≡ h
   nodes_below = all_below h0.world r.nodes (round_within h0.world h0.phase r asking phase)
 
   -- a rule of this round is one of the phase's round, whichever is named
-  named : (rule : HeldRound → AnyOp → ℕ → ℕ → Turn → Turn) (k : Held) (u : Made) → Works (rule r) h0 t k u
-      → (round : HeldRound) → h.phase ≡ Asking round → Works (rule round) h t k u
-  named rule k u W round is = subst (λ (x : Held). Works (rule round) x t k u) same
-      (subst (λ (x : HeldRound). Works (rule x) h0 t k u)
-      (one_round h0.phase r round asking (ap (λ (x : Held). x.phase) same ∙ is)) W)
+  named : (rule : RoundState → AnyOp → ℕ → ℕ → Turn → Turn) (k : CoreState) (u : Made) → Works (rule r) h0 t k u
+      → (round : RoundState) → h.phase ≡ Asking round → Works (rule round) h t k u
+  named rule k u W round is = subst (λ (x : CoreState). Works (rule round) x t k u) same
+      (subst (λ (x : RoundState). Works (rule x) h0 t k u)
+      (one_round h0.phase r round asking (ap (λ (x : CoreState). x.phase) same ∙ is)) W)
 
   -- the round goes on
-  pub goes_on : over ≡ false → (number : ℕ → ℕ) (round : HeldRound) → h.phase ≡ Asking round
+  pub goes_on : over ≡ false → (number : ℕ → ℕ) (round : RoundState) → h.phase ≡ Asking round
       → Works (λ op n a. end_round n a number op (seen round)) h t h0 t
   goes_on not_over number = named (λ s op n a. end_round n a number op (seen s)) h0 t (λ op is. record {
     name = refl;
@@ -271,9 +271,9 @@ module _ (h0 h : Held) (t : Made) (r : HeldRound) (over : Bool) (same : h0 ≡ h
         else turn_of h0 t) (sym is_over_ ∙ ends n0 nodes_below)
 
     -- it is held
-    pub ends_held : (k : Held) (u : Made) (xs : List ℕ) → over ≡ true → e ≡ Holds → set_of xs ≡ asked_by (seen r)
+    pub ends_held : (k : CoreState) (u : Made) (xs : List ℕ) → over ≡ true → e ≡ Holds → set_of xs ≡ asked_by (seen r)
         → (number : ℕ → ℕ) → Works (λ op n a. held n a number op (set_of xs)) h0 t k u
-        → (round : HeldRound) → h.phase ≡ Asking round → Works (λ op n a. end_round n a number op (seen round)) h t k u
+        → (round : RoundState) → h.phase ≡ Asking round → Works (λ op n a. end_round n a number op (seen round)) h t k u
     ends_held k u xs is_over_ is asked number W = named (λ s op n a. end_round n a number op (seen s)) k u
         (λ op cur. record {
           name = (W op cur).name;
@@ -284,9 +284,9 @@ module _ (h0 h : Held) (t : Made) (r : HeldRound) (over : Bool) (same : h0 ≡ h
         })
 
     -- it failed
-    pub ends_failed : (k : Held) (u : Made) (xs : List ℕ) → over ≡ true → e ≡ GiveBack xs
+    pub ends_failed : (k : CoreState) (u : Made) (xs : List ℕ) → over ≡ true → e ≡ GiveBack xs
         → (number : ℕ → ℕ) → Works (λ op n a. give_up n a op (set_of xs)) h0 t k u
-        → (round : HeldRound) → h.phase ≡ Asking round → Works (λ op n a. end_round n a number op (seen round)) h t k u
+        → (round : RoundState) → h.phase ≡ Asking round → Works (λ op n a. end_round n a number op (seen round)) h t k u
     ends_failed k u xs is_over_ is number W = named (λ s op n a. end_round n a number op (seen s)) k u
         (λ op cur. record {
           name = (W op cur).name;
@@ -297,7 +297,7 @@ module _ (h0 h : Held) (t : Made) (r : HeldRound) (over : Bool) (same : h0 ≡ h
         })
 
 -- an answer that is owed is taken in
-pub hears : (h h2 k : Held) (t u v : Made) (r r2 : HeldRound) (f : ℕ) (g : Bool) (number : ℕ → ℕ) → h.phase ≡ Asking r
+pub hears : (h h2 k : CoreState) (t u v : Made) (r r2 : RoundState) (f : ℕ) (g : Bool) (number : ℕ → ℕ) → h.phase ≡ Asking r
     → owes (seen r) f ≡ true
     → is_some h.registrar.current ≡ true → Makes (λ n a. ask_rest n a f g (AnyLetter.SetLock (Global a) (registrar a))
     (seen r)) h t h u
@@ -305,7 +305,7 @@ pub hears : (h h2 k : Held) (t u v : Made) (r r2 : HeldRound) (f : ℕ) (g : Boo
     → Works (λ op n a. end_round n a number op (seen r2)) h2 u k v
     → Makes (λ n a w. hear_answer n a number f g w.node.current w) h t k v
 hears h h2 k t u v r r2 f g number asking owed busy rest answered is W =
-    go h.registrar.current refl busy (subst (λ (x : Held). Works (λ op n a. end_round n a number op (seen r2)) x u k v)
+    go h.registrar.current refl busy (subst (λ (x : CoreState). Works (λ op n a. end_round n a number op (seen r2)) x u k v)
     is W)
   where
     n : ℕ
@@ -338,12 +338,12 @@ hears h h2 k t u v r r2 f g number asking owed busy rest answered is W =
     }
 
 -- a node has gone down: the round is told
-pub loses : (h h2 k : Held) (t v : Made) (r r2 : HeldRound) (f : ℕ) (number : ℕ → ℕ) → h.phase ≡ Asking r
+pub loses : (h h2 k : CoreState) (t v : Made) (r r2 : RoundState) (f : ℕ) (number : ℕ → ℕ) → h.phase ≡ Asking r
     → is_some h.registrar.current ≡ true → seen r2 ≡ down f (seen r) → h2 ≡ record h { phase = Asking r2 }
     → Works (λ op n a. end_round n a number op (seen r2)) h2 t k v
     → Makes (λ n a. lose_current n a number f) h t k v
 loses h h2 k t v r r2 f number asking busy fell is W =
-    go h.registrar.current refl busy (subst (λ (x : Held). Works (λ op n a. end_round n a number op (seen r2)) x t k v)
+    go h.registrar.current refl busy (subst (λ (x : CoreState). Works (λ op n a. end_round n a number op (seen r2)) x t k v)
     is W)
   where
     n : ℕ

@@ -35,7 +35,7 @@ use Rattle.node_events.specs.declared.events.Reply.TheVariants.{Yes, Ok}
 use Rattle.node_core.specs.declared.node.Phase.{Phase}
 use Rattle.node_core.specs.declared.node.Phase.TheVariants.{Writing}
 use Rattle.node_events.specs.Made.{Made, SendsAll, entered}
-use Rattle.node_core.specs.Held.{Held, bound_of, AreOf, IsWithin, IsWhole}
+use Rattle.node_core.specs.CoreState.{CoreState, bound_of, AreOf, IsWithin, IsWhole}
 use Rattle.node_events.specs.Letters.{letter_of}
 use Rattle.node_core.specs.Seen.{turn_of, phase_of, current_of}
 use Rattle.node_events.specs.Seen.{reply_of, entry_of}
@@ -45,7 +45,7 @@ use Rattle.node_core.proofs.Bounds.{all_below, of_world}
 use Rattle.node_core.proofs.Sends.{sent_all_is}
 
 -- one rule behind another
-pub followed : {f g : ℕ → ℕ → Turn → Turn} {h k m : Held} {t u v : Made} → Makes f h t k u → Makes g k u m v
+pub followed : {f g : ℕ → ℕ → Turn → Turn} {h k m : CoreState} {t u v : Made} → Makes f h t k u → Makes g k u m v
     → Makes (λ n a x. g n a (f n a x)) h t m v
 followed {f} {g} {h} {k} {m} {t} {u} {v} p q = record {
   name = q.name ∙ p.name;
@@ -56,7 +56,7 @@ followed {f} {g} {h} {k} {m} {t} {u} {v} p q = record {
 }
 
 -- the lock goes back to these
-pub gives_global : (h : Held) (t u : Made) (cs : List ℕ) (l : Letter) → IsNodeSet cs → IsWithin h.world cs
+pub gives_global : (h : CoreState) (t u : Made) (cs : List ℕ) (l : Letter) → IsNodeSet cs → IsWithin h.world cs
     → letter_of l ≡ AnyLetter.GiveBack (Global h.name) (registrar h.name) false → SendsAll cs l t u
     → Makes (λ n a. give_global n a (set_of cs)) h t h u
 gives_global h t u cs l set within is made = record {
@@ -67,23 +67,23 @@ gives_global h t u cs l set within is made = record {
 }
 
 -- an entry more
-pub entered_is : (h : Held) (t : Made) (e : Entry) → turn_of h (entered e t) ≡ enter (entry_of e) (turn_of h t)
+pub entered_is : (h : CoreState) (t : Made) (e : Entry) → turn_of h (entered e t) ≡ enter (entry_of e) (turn_of h t)
 entered_is h t e = ap (λ (es : List AnyEntry). record (turn_of h t) { entries = es })
     (map-append entry_of t.entries (e ∷ []))
 
 -- the phase of a current operation
-pub phased : (h : Held) (t : Made) (op : Op) (p : Phase) → h.registrar.current ≡ Some op
+pub phased : (h : CoreState) (t : Made) (op : Op) (p : Phase) → h.registrar.current ≡ Some op
     → turn_of (record h { phase = p }) t ≡ at_work (phase_of op h.registrar.awaited p) (turn_of h t)
 phased h t op p is = ap (λ (o : Option Op). at_work (current_of o h.registrar.awaited p) (turn_of h t)) is
 
 -- the end: the answer, and the lock goes back to those that were asked and haven't gone: less
-pub finishes : (h0 h : Held) (t u v : Made) (w : Work) (asked less : List ℕ) (reply : Option AnyReply) → h0 ≡ h
+pub finishes : (h0 h : CoreState) (t u v : Made) (w : Work) (asked less : List ℕ) (reply : Option AnyReply) → h0 ≡ h
     → w ≡ record h0.registrar { current = None; awaited = [] }
     → ((c : ℕ) → set_of less c ≡ (set_of asked c && not (with_older h0.told c)))
     → Works (λ op n a. answer_op n a op reply) h t h u → Makes (λ n a. give_global n a (set_of less)) h u h v
     → Works (λ op n a. finish n a op (set_of asked) reply) h t (record h0 { registrar = w }) v
 finishes h0 h t u v w asked less reply same ended are =
-    subst (λ (x : Held). Works (λ op n a. answer_op n a op reply) x t x u
+    subst (λ (x : CoreState). Works (λ op n a. answer_op n a op reply) x t x u
     → Makes (λ n a. give_global n a (set_of less)) x u x v
     → Works (λ op n a. finish n a op (set_of asked) reply) x t (record h0 { registrar = w }) v) same
     (λ A G op is. record {
@@ -97,11 +97,11 @@ finishes h0 h t u v w asked less reply same ended are =
     })
 
 -- done: the entry, and then the end
-pub does : (h0 h k : Held) (t u v : Made) (a : ℕ) (asked : Nodes) (reply : Option AnyReply) → h0 ≡ h → a ≡ h0.name → u
+pub does : (h0 h k : CoreState) (t u v : Made) (a : ℕ) (asked : Nodes) (reply : Option AnyReply) → h0 ≡ h → a ≡ h0.name → u
     ≡ entered (Done a) t
     → Works (λ op n a. finish n a op asked reply) h0 u k v → Works (λ op n a. done n a op asked reply) h t k v
 does h0 h k t u v a asked reply same here made W =
-    subst (λ (x : Held). Works (λ op n a. done n a op asked reply) x t k v) same (λ op is. record {
+    subst (λ (x : CoreState). Works (λ op n a. done n a op asked reply) x t k v) same (λ op is. record {
       name = (W op is).name;
       world = (W op is).world;
       turn = (W op is).turn
@@ -111,13 +111,13 @@ does h0 h k t u v a asked reply same here made W =
     })
 
 -- the change goes to every member
-pub writes : (h0 h : Held) (t u : Made) (w : Work) (asked : List ℕ) (reply : Option Reply) (change : Change) → h0 ≡ h
+pub writes : (h0 h : CoreState) (t u : Made) (w : Work) (asked : List ℕ) (reply : Option Reply) (change : Change) → h0 ≡ h
     → IsNodeSet h0.members → AreOf h0.world h0.members
     → w ≡ record h0.registrar { awaited = h0.members } → SendsAll h0.members (Apply change) t u
     → Works (λ op n a. write n a op (set_of asked) (option_map reply_of reply) (change_of change)) h t
     (record h0 { registrar = w; phase = Writing asked reply }) u
 writes h0 h t u w asked reply change same set are awaits made =
-    subst (λ (x : Held). Works rule x t (record h0 { registrar = w; phase = Writing asked reply }) u) same
+    subst (λ (x : CoreState). Works rule x t (record h0 { registrar = w; phase = Writing asked reply }) u) same
     (subst (λ (y : Work). Works rule h0 t (record h0 { registrar = y; phase = Writing asked reply }) u) (sym awaits)
     (λ op is. record {
       name = refl;
@@ -130,16 +130,16 @@ writes h0 h t u w asked reply change same set are awaits made =
     rule : AnyOp → ℕ → ℕ → Turn → Turn
     rule op n a = write n a op (set_of asked) (option_map reply_of reply) (change_of change)
 
-    k : Held
+    k : CoreState
     k = record h0 { registrar = record h0.registrar { awaited = h0.members }; phase = Writing asked reply }
 
 -- the only current operation is this
-pub current_is : (h : Held) (op other : Op) → h.registrar.current ≡ Some op → h.registrar.current ≡ Some other
+pub current_is : (h : CoreState) (op other : Op) → h.registrar.current ≡ Some op → h.registrar.current ≡ Some other
     → other ≡ op
 current_is h op other e f = cc
 
 -- a granted call is written; its entry has a copy of the reply
-pub grants : (h0 h k : Held) (t u v : Made) (asked : List ℕ) (i : ℕ) (c : NameCall) (r s : Reply) (change : Change)
+pub grants : (h0 h k : CoreState) (t u v : Made) (asked : List ℕ) (i : ℕ) (c : NameCall) (r s : Reply) (change : Change)
     → h0 ≡ h
     → h0.registrar.current ≡ Some (NameOp i c)
     → reply_of r ≡ reply_to (set_of h0.members) h0.table (name_call_of c) → is_grant (reply_of r) ≡ true
@@ -148,7 +148,7 @@ pub grants : (h0 h k : Held) (t u v : Made) (asked : List ℕ) (i : ℕ) (c : Na
     → Works (λ op n a. write n a op (set_of asked) (Some (reply_of r)) (change_of change)) h0 u k v
     → (number : ℕ → ℕ) → Works (λ op n a. held n a number op (set_of asked)) h t k v
 grants h0 h k t u v asked i c r s change same cur reply yes_ changes copied made W number =
-    subst (λ (x : Held). Works (λ op n a. held n a number op (set_of asked)) x t k v) same
+    subst (λ (x : CoreState). Works (λ op n a. held n a number op (set_of asked)) x t k v) same
     (λ op is. subst (λ (o : Op). Makes (λ n a. held n a number (op_of o) (set_of asked)) h0 t k v)
     (sym (current_is h0 (NameOp i c) op cur is)) (record {
       name = (W (NameOp i c) cur).name;
@@ -225,7 +225,7 @@ less_within world xs f within = λ c e. within c (passes (set_of xs c) (not (c =
     passes false b e = e
 
 -- one node less is awaited
-pub whole_less : (h : Held) (w : Work) (f : ℕ) → IsWhole h → w
+pub whole_less : (h : CoreState) (w : Work) (f : ℕ) → IsWhole h → w
     ≡ record h.registrar { awaited = without_node h.registrar.awaited f } → IsWhole (record h { registrar = w })
 whole_less h w f whole is = whole_at h w whole (subst (IsWorkWithin h.world) (sym is) (record {
   queue = whole.queue;
@@ -242,7 +242,7 @@ ends_anywhere n a (AnyOp.Strike p) asked reply x u = refl
 ends_anywhere n a (AnyOp.Admission j ps) asked reply x u = refl
 ends_anywhere n a (AnyOp.Join k m) asked reply x u = refl
 
-module _ (h0 h : Held) (t : Made) (w : Work) (f : ℕ) (asked : List ℕ) (reply : Option Reply) (same : h0 ≡ h)
+module _ (h0 h : CoreState) (t : Made) (w : Work) (f : ℕ) (asked : List ℕ) (reply : Option Reply) (same : h0 ≡ h)
     (whole : IsWhole h0)
     (writing : h0.phase ≡ Writing asked reply) (was : set_of h0.registrar.awaited f ≡ true)
     (less : w ≡ record h0.registrar { awaited = without_node h0.registrar.awaited f }) where
@@ -274,11 +274,11 @@ module _ (h0 h : Held) (t : Made) (w : Work) (f : ℕ) (asked : List ℕ) (reply
           else at_work (Current.Writing (op_of op) (set_of asked) s (option_map reply_of reply)) u
 
   -- the operation is done; another phase may stand there by then
-  pub last_awaited : (k : Held) (u : Made) (p : Phase) → is_some h0.registrar.current ≡ true
+  pub last_awaited : (k : CoreState) (u : Made) (p : Phase) → is_some h0.registrar.current ≡ true
       → is_nobody w.awaited ≡ true → Works (λ op n a. done n a op (set_of asked) (option_map reply_of reply))
       (record h0 { registrar = w; phase = p }) t k u
       → Makes rule h t k u
-  last_awaited k u p cur left W = subst (λ (x : Held). Makes rule x t k u) same
+  last_awaited k u p cur left W = subst (λ (x : CoreState). Makes rule x t k u) same
       (go h0.registrar.current refl cur (subst (λ (v : Work). Works
       (λ op n a. done n a op (set_of asked) (option_map reply_of reply))
       (record h0 { registrar = v; phase = p }) t k u) less W))
@@ -306,7 +306,7 @@ module _ (h0 h : Held) (t : Made) (w : Work) (f : ℕ) (asked : List ℕ) (reply
   -- others are awaited still
   pub more_awaited : is_some h0.registrar.current ≡ true → is_nobody w.awaited ≡ false
       → Makes rule h t (record h0 { registrar = w }) t
-  more_awaited cur left = subst (λ (x : Held). Makes rule x t (record h0 { registrar = w }) t) same
+  more_awaited cur left = subst (λ (x : CoreState). Makes rule x t (record h0 { registrar = w }) t) same
       (subst (λ (v : Work). Makes rule h0 t (record h0 { registrar = v }) t) (sym less)
       (go h0.registrar.current refl cur))
     where

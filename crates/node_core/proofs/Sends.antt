@@ -6,7 +6,7 @@ use Rattle.term.specs.NodeSets.{IsNodeSet, set_of}
 use Rattle.boss_order.proofs.Sets.{nodes_of-set_of}
 use Rattle.node_events.specs.declared.events.Letter.{Letter}
 use Rattle.node_events.specs.Made.{Made, sent, SendsAll}
-use Rattle.node_core.specs.Held.{Held, bound_of, IsWithin}
+use Rattle.node_core.specs.CoreState.{CoreState, bound_of, IsWithin}
 use Rattle.node_events.specs.Letters.{send_of, letter_of}
 use Rattle.node_core.specs.Seen.{turn_of}
 use Rattle.node_core.proofs.Bounds.{all_below}
@@ -15,12 +15,12 @@ use Rattle.node_events.specs.declared.events.Entry.{Entry}
 use Rattle.node_events.specs.declared.events.Answer.{Answer}
 
 -- a letter more
-pub sent_is : (h : Held) (t : Made) (c : ℕ) (l : Letter) → turn_of h (sent c l t) ≡ send c (letter_of l) (turn_of h t)
+pub sent_is : (h : CoreState) (t : Made) (c : ℕ) (l : Letter) → turn_of h (sent c l t) ≡ send c (letter_of l) (turn_of h t)
 sent_is h t c l = ap (λ (ss : List Send). record (turn_of h t) { sends = ss })
     (map-append send_of t.letters ((c, l) ∷ []))
 
 -- a letter more to each node of a set
-pub sent_all_is : (h : Held) (t u : Made) (cs : List ℕ) (l : Letter) → SendsAll cs l t u → IsNodeSet cs
+pub sent_all_is : (h : CoreState) (t u : Made) (cs : List ℕ) (l : Letter) → SendsAll cs l t u → IsNodeSet cs
     → IsWithin h.world cs
     → turn_of h u ≡ send_all (bound_of h.world) (set_of cs) (letter_of l) (turn_of h t)
 sent_all_is h t u cs l made set within =

@@ -14,7 +14,7 @@ use Rattle.node_events.specs.declared.events.Event.{Event}
 use Rattle.node_events.specs.declared.events.Event.TheVariants.{Call, FromPeer, Retry, Exit, Leave}
 use Rattle.node_events.specs.Letters.{letter_of}
 use Rattle.node_events.specs.Made.{Made, Room, IsNothing}
-use Rattle.node_core.specs.Held.{Held, IsWhole, bound_of}
+use Rattle.node_core.specs.CoreState.{CoreState, IsWhole, bound_of}
 use Rattle.node_core.specs.Seen.{turn_by, node_of}
 use Rattle.node_events.specs.Seen.{unnumbered, call_of}
 use Rattle.node_core.specs.Steps.{Keeps, Takes, Steps, IsTurn, IsAsBefore, IsHeardWithin, IsAskedWithin, IsSaidBy, GoWithin, refusal_of}
@@ -22,7 +22,7 @@ use Rattle.node_core.proofs.Numbers.{numbered, turn_numbered, event_numbered, re
 use Rattle.node_core.proofs.ReceiversOfEvents.{sends_within}
 
 -- the step of an event, of the turn that it made
-stepped : (e : Event) (h k : Held) (u : Made) → refusal_of e h ≡ None
+stepped : (e : Event) (h k : CoreState) (u : Made) → refusal_of e h ≡ None
     → IsWhole h → is_rising h.table ≡ true → k.name ≡ h.name → k.world ≡ h.world
     → ((number : ℕ → ℕ) → IsTurn number e h (turn_by number k u)) → Steps e h k u
 stepped e h k u accepted whole rising name world turn = record {
@@ -45,7 +45,7 @@ is_begun t empty =
     ∙ ap (λ (ss : List Answer). record t { letters = []; entries = []; answers = ss }) empty.answers
 
 -- the step of an event that was taken
-steps : (e : Event) (h k : Held) (r : Room) (u : Made) → refusal_of e h ≡ None
+steps : (e : Event) (h k : CoreState) (r : Room) (u : Made) → refusal_of e h ≡ None
     → Keeps h k → Takes e h (begun_with r) k u → IsWhole h → is_rising h.table ≡ true → Steps e h k u
 steps (Call c) h k r u accepted kept made whole rising =
     stepped (Call c) h k u accepted whole rising kept.name kept.world (λ number asked.
@@ -70,13 +70,13 @@ steps (FromPeer f l) h k r u accepted kept made whole rising =
     ∙ receive_numbered (bound_of h.world) h.name number f (letter_of l) (begun (node_of h)))
 
 -- the same, where the turn began with nothing
-pub steps_from : (e : Event) (h k : Held) (t u : Made) → IsNothing t → refusal_of e h ≡ None
+pub steps_from : (e : Event) (h k : CoreState) (t u : Made) → IsNothing t → refusal_of e h ≡ None
     → Keeps h k → Takes e h t k u → IsWhole h → is_rising h.table ≡ true → Steps e h k u
 steps_from e h k t u empty accepted kept made whole rising =
     steps e h k t.room u accepted kept (subst (λ (x : Made). Takes e h x k u) (is_begun t empty) made) whole rising
 
 -- a refusal asks the node alone, as the protocol sees it
-pub same_refusal : (e : Event) (h k : Held) → IsAsBefore h k → refusal_of e k ≡ refusal_of e h
+pub same_refusal : (e : Event) (h k : CoreState) → IsAsBefore h k → refusal_of e k ≡ refusal_of e h
 same_refusal (Call c) h k same =
     ap (λ (a : ℕ). first_cause (causes a (node_of k) (AnyEvent.Calling (call_of c)))) same.name
     ∙ ap (λ (v : Node). first_cause (causes h.name v (AnyEvent.Calling (call_of c)))) same.node
@@ -92,7 +92,7 @@ same_refusal Leave h k same =
 same_refusal (FromPeer f l) h k same = refl
 
 -- what is so of the world, the name and the node of a copy is so of the node
-as_before : (F : List ℕ → ℕ → Node → Type 0) (h c : Held) → IsAsBefore h c → F c.world c.name (node_of c)
+as_before : (F : List ℕ → ℕ → Node → Type 0) (h c : CoreState) → IsAsBefore h c → F c.world c.name (node_of c)
     → F h.world h.name (node_of h)
 as_before F h c same f =
     subst (λ (v : Node). F h.world h.name v) same.node
@@ -100,7 +100,7 @@ as_before F h c same f =
     (subst (λ (w : List ℕ). F w c.name (node_of c)) same.world f))
 
 -- the turn of a copy is the node's
-turn_before : (number : ℕ → ℕ) (e : Event) (h c : Held) (u : Turn) → IsAsBefore h c → IsTurn number e c u
+turn_before : (number : ℕ → ℕ) (e : Event) (h c : CoreState) (u : Turn) → IsAsBefore h c → IsTurn number e c u
     → IsTurn number e h u
 turn_before number (Call x) h c u same t = as_before (λ w a v. IsAskedWithin w x
     → u ≡ event (bound_of w) a (set_of w) (AnyEvent.Calling (call_of x)) (begun v)) h c same t
@@ -114,7 +114,7 @@ turn_before number (FromPeer f l) h c u same t = as_before (λ w a v. IsSaidBy w
     → u ≡ receive (bound_of w) a number f (letter_of l) (begun v)) h c same t
 
 -- the step that a copy took is the node's
-pub steps_by_copy : (e : Event) (h c k : Held) (u : Made) → IsAsBefore h c → Steps e c k u → Steps e h k u
+pub steps_by_copy : (e : Event) (h c k : CoreState) (u : Made) → IsAsBefore h c → Steps e c k u → Steps e h k u
 steps_by_copy e h c k u same step = record {
   name = step.name ∙ same.name;
   world = step.world ∙ same.world;

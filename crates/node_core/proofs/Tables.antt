@@ -8,11 +8,11 @@ use Rattle.std.proofs.lemmas.List.Elements.{filter-append}
 use Rattle.registry_model.specs.Process.{Text, Nodes}
 use Rattle.registry_model.specs.Table.{Pair, Table, put, without, is_below, is_rising}
 use Rattle.registry_model.proofs.Tables.{is_rising-parts}
-use Rattle.exit_watch.specs.Held.{Held as Watch, AreSuspected, KeepsSuspects}
+use Rattle.exit_watch.specs.WatchState.{WatchState, AreSuspected, KeepsSuspects}
 
 -- the first i of these pairs have been gone through: the table has those whose owners' nodes haven't gone, and the
 -- watch, which was w at first, was told of each owner
-pub record HasFirst (w v : Watch) (pairs : Table) (gone : Nodes) (i : ℕ) (t : Table) : Type 0 where
+pub record HasFirst (w v : WatchState) (pairs : Table) (gone : Nodes) (i : ℕ) (t : Table) : Type 0 where
   pub node : v.node ≡ w.node
   pub watch : v.watch ≡ w.watch
   pub suspected : AreSuspected v t
@@ -81,11 +81,11 @@ module _ (gone : Nodes) (pairs : Table) (i : ℕ) (e : Pair) (l : i < length pai
       ∙ sym (parted ∙ ap (λ (b : Bool). without gone (take i pairs) ++ (if not b then e ∷ [] else [])) here)
 
 -- the next pair is gone through, where its owner's node has gone
-pub passes_over : (w v v2 : Watch) (pairs : Table) (gone : Nodes) (i : ℕ) (t t2 : Table) (e d : Pair)
+pub passes_over : (w v v2 : WatchState) (pairs : Table) (gone : Nodes) (i : ℕ) (t t2 : Table) (e d : Pair)
     → HasFirst w v pairs gone i t → i < length pairs → e ≡ get_or pairs i e → d ≡ e → v2 ≡ v → t2 ≡ t
     → gone d.owner.node ≡ true → HasFirst w v2 pairs gone (i + 1) t2
 passes_over w v v2 pairs gone i t t2 e d has l is same same_watch same_table left =
-    subst (λ (x : Watch). HasFirst w x pairs gone (i + 1) t2) (sym same_watch)
+    subst (λ (x : WatchState). HasFirst w x pairs gone (i + 1) t2) (sym same_watch)
     (subst (λ (x : Table). HasFirst w v pairs gone (i + 1) x) (sym same_table) (record {
       node = has.node;
       watch = has.watch;
@@ -96,14 +96,14 @@ passes_over w v v2 pairs gone i t t2 e d has l is same same_watch same_table lef
     }))
 
 -- and where it hasn't: the watch is told of the owner, and the pair is put
-pub takes_pair : (w v v1 v2 : Watch) (pairs : Table) (gone : Nodes) (i : ℕ) (t t1 t2 : Table) (e d f : Pair)
+pub takes_pair : (w v v1 v2 : WatchState) (pairs : Table) (gone : Nodes) (i : ℕ) (t t1 t2 : Table) (e d f : Pair)
     → HasFirst w v pairs gone i t → i < length pairs → e ≡ get_or pairs i e → d ≡ e → v2 ≡ v1 → t2 ≡ t1
     → gone d.owner.node ≡ false → v1.node ≡ v.node → v1.watch ≡ v.watch
     → ((y : Pair) (u : Table) → y.owner ≡ d.owner → AreSuspected v u → AreSuspected v1 (put y u)) → KeepsSuspects v v1
     → f ≡ d → t1 ≡ put f t → HasFirst w v2 pairs gone (i + 1) t2
 takes_pair w v v1 v2 pairs gone i t t1 t2 e d f has l is same same_watch same_table here node watch told kept copied
     written =
-    subst (λ (y : Watch). HasFirst w y pairs gone (i + 1) t2) (sym same_watch)
+    subst (λ (y : WatchState). HasFirst w y pairs gone (i + 1) t2) (sym same_watch)
     (subst (λ (y : Table). HasFirst w v1 pairs gone (i + 1) y) (sym (same_table ∙ put_is)) (record {
       node = node ∙ has.node;
       watch = watch ∙ has.watch;

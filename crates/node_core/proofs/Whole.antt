@@ -1,13 +1,13 @@
 -- A whole node stays whole with other parts of which the same holds.
 use Rattle.std.proofs.Common.{ℕ, ◌≡◌, List, Option, refl, sym, ◌∙◌, subst}
 use Rattle.std.specs.Prelude.{All}
-use Rattle.locker.specs.Held.{Held as HeldRound}
+use Rattle.locker.specs.RoundState.{RoundState}
 use Rattle.transaction.specs.Work.{Work}
-use Rattle.exit_watch.specs.Held.{Held as Watch, AreSuspected}
-use Rattle.lock_calls.specs.Held.{Held as LockCalls, seen}
+use Rattle.exit_watch.specs.WatchState.{WatchState, AreSuspected}
+use Rattle.lock_calls.specs.LockCallsState.{LockCallsState, seen}
 use Rattle.node_events.specs.declared.events.Reply.{Reply}
 use Rattle.node_core.specs.declared.node.Phase.TheVariants.{Asking, Writing}
-use Rattle.node_core.specs.Held.{Held, IsWhole, IsWithin, IsOpWithin, IsCurrentWithin, IsCallWithin}
+use Rattle.node_core.specs.CoreState.{CoreState, IsWhole, IsWithin, IsOpWithin, IsCurrentWithin, IsCallWithin}
 use Rattle.node_core.proofs.Bounds.{of_world}
 
 -- the other nodes of a registrar's operations and whom it awaits have started
@@ -17,7 +17,7 @@ pub record IsWorkWithin (world : List ℕ) (w : Work) : Type 0 where
   pub awaited : IsWithin world w.awaited
 
 -- with another registrar, watch and calls
-pub whole_of : (h : Held) (r : Work) (w : Watch) (cs : LockCalls) → IsWhole h → IsWorkWithin h.world r
+pub whole_of : (h : CoreState) (r : Work) (w : WatchState) (cs : LockCallsState) → IsWhole h → IsWorkWithin h.world r
     → w.node ≡ h.watch.node → AreSuspected w h.table → cs.node ≡ h.calls.node
     → All (λ c. IsCallWithin h.world c.phase) (seen cs) → IsWhole (record h { registrar = r; watch = w; calls = cs })
 whole_of h r w cs whole work watch suspected calls called = record {
@@ -35,27 +35,27 @@ whole_of h r w cs whole work watch suspected calls called = record {
   called = called;
 }
 
-work_within : (h : Held) → IsWhole h → IsWorkWithin h.world h.registrar
+work_within : (h : CoreState) → IsWhole h → IsWorkWithin h.world h.registrar
 work_within h whole = record { queue = whole.queue; current = whole.current; awaited = whole.awaited }
 
 -- with another registrar
-pub whole_at : (h : Held) (r : Work) → IsWhole h → IsWorkWithin h.world r → IsWhole (record h { registrar = r })
+pub whole_at : (h : CoreState) (r : Work) → IsWhole h → IsWorkWithin h.world r → IsWhole (record h { registrar = r })
 whole_at h r whole work = whole_of h r h.watch h.calls whole work refl whole.suspected refl whole.called
 
 -- with another watch
-pub whole_watching : (h : Held) (w : Watch) → IsWhole h → w.node ≡ h.watch.node → AreSuspected w h.table
+pub whole_watching : (h : CoreState) (w : WatchState) → IsWhole h → w.node ≡ h.watch.node → AreSuspected w h.table
     → IsWhole (record h { watch = w })
 whole_watching h w whole watch suspected =
     whole_of h h.registrar w h.calls whole (work_within h whole) watch suspected refl whole.called
 
 -- with other calls of its processes
-pub whole_with : (h : Held) (cs : LockCalls) → IsWhole h → cs.node ≡ h.calls.node
+pub whole_with : (h : CoreState) (cs : LockCallsState) → IsWhole h → cs.node ≡ h.calls.node
     → All (λ c. IsCallWithin h.world c.phase) (seen cs) → IsWhole (record h { calls = cs })
 whole_with h cs whole calls called =
     whole_of h h.registrar h.watch cs whole (work_within h whole) refl whole.suspected calls called
 
 -- once it writes, and awaits these nodes
-pub whole_writing : (h : Held) (w : Work) (all asked : List ℕ) (reply : Option Reply) → IsWhole h
+pub whole_writing : (h : CoreState) (w : Work) (all asked : List ℕ) (reply : Option Reply) → IsWhole h
     → w ≡ record h.registrar { awaited = all } → IsWithin h.world all → IsWithin h.world asked
     → IsWhole (record h { registrar = w; phase = Writing asked reply })
 whole_writing h w all asked reply whole is within asked_within =
@@ -75,7 +75,7 @@ whole_writing h w all asked reply whole is within asked_within =
     })
 
 -- once it asks its members
-pub whole_asking : (h : Held) (r : HeldRound) → IsWhole h → r.nodes ≡ h.members → IsWhole (record h { phase = Asking r })
+pub whole_asking : (h : CoreState) (r : RoundState) → IsWhole h → r.nodes ≡ h.members → IsWhole (record h { phase = Asking r })
 whole_asking h r whole is = record {
   self = whole.self;
   members = whole.members;

@@ -16,7 +16,7 @@ use Rattle.exchange.specs.declared.bodies.Welcome.{Welcome}
 use Rattle.node_events.specs.declared.events.Letter.{Letter}
 use Rattle.node_events.specs.Letters.{letter_of}
 use Rattle.node_events.specs.Made.{Made, sent, SendsAll}
-use Rattle.node_core.specs.Held.{Held, HaveStarted, IsWithin}
+use Rattle.node_core.specs.CoreState.{CoreState, HaveStarted, IsWithin}
 
 -- the number of the join that waits for its contact, if one does
 abbrev pub join_number_of : Current → Option ℕ
@@ -37,15 +37,15 @@ pub record IsWelcomeTo (world : List ℕ) (a : ℕ) (w : Welcome) : Type 0 where
   pub rising : is_rising w.pairs.items ≡ true
 
 -- the current operation is the admission of j, which has these names
-abbrev pub IsAdmitting : Held → ℕ → Table → Type 0
+abbrev pub IsAdmitting : CoreState → ℕ → Table → Type 0
 IsAdmitting h j pairs = option_map op_of h.registrar.current ≡ Some (Op.Admission j pairs)
 
 -- the members are told to admit j
-abbrev pub TellsToAdmit : Held → ℕ → Settled → Made → Made → Type 0
+abbrev pub TellsToAdmit : CoreState → ℕ → Settled → Made → Made → Type 0
 TellsToAdmit h j s t u = (l : Letter) × (letter_of l ≡ AnyLetter.Admit j s) × SendsAll h.members l t u
 
 -- j is sent all that the node has, and what is settled
-abbrev pub Welcomes : Held → ℕ → Settled → Made → Made → Type 0
+abbrev pub Welcomes : CoreState → ℕ → Settled → Made → Made → Type 0
 Welcomes h j s t u = (m : Letter)
     × (letter_of m ≡ AnyLetter.Welcome (with_node j (set_of h.members)) (with_settled s h.table) (with_older h.told) s.fate)
     × (u ≡ sent j m t)

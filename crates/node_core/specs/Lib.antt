@@ -1,7 +1,7 @@
 pub use Rattle.node_events.specs.Letters
 pub use Rattle.node_events.specs.Made
 pub use Rattle.node_events.specs.Seen as NodeEventsSeen
-pub mod Held
+pub mod CoreState
 pub mod Seen
 pub mod Steps
 pub mod Causes

@@ -11,7 +11,7 @@ use Rattle.node_events.specs.declared.events.Call.TheVariants.{Spawn, Whereis, R
 use Rattle.node_events.specs.declared.events.Letter.{Letter}
 use Rattle.node_events.specs.declared.events.Letter.TheVariants.{LockAnswer, GivenBack, Applied, JoinAsk, JoinRefused, Admit, Welcome, Down}
 use Rattle.node_events.specs.Made.{Made, HasRoom}
-use Rattle.node_core.specs.Held.{Held}
+use Rattle.node_core.specs.CoreState.{CoreState}
 
 -- the operation is an admission
 abbrev pub is_admission : Option Op → Bool
@@ -37,7 +37,7 @@ is_rare_event admitting (FromPeer f l) = moves_names admitting l
 is_rare_event admitting _ = false
 
 -- the same, or a join is the next that the registrar starts
-abbrev pub is_rare : Event → Held → Bool
+abbrev pub is_rare : Event → CoreState → Bool
 is_rare e h = is_rare_event (is_admission h.registrar.current) e || begins_with_join h.registrar.queue
 
 -- how many operations may be joins that are answered at once, since their contact has left
@@ -45,15 +45,15 @@ abbrev pub joins_in : List Op → ℕ
 joins_in ops = if begins_with_join ops then length ops else 0
 
 -- how many entries a step makes at most
-abbrev pub most_entries : Held → ℕ
+abbrev pub most_entries : CoreState → ℕ
 most_entries h = 4 + joins_in h.registrar.queue
 
 -- how many answers a step gives at most
-abbrev pub most_answers : Held → ℕ
+abbrev pub most_answers : CoreState → ℕ
 most_answers h = 4 + joins_in h.registrar.queue + length h.calls.calls
 
 -- a step of the node made no more than that
-pub record IsFew (h : Held) (m : Made) : Type 0 where
+pub record IsFew (h : CoreState) (m : Made) : Type 0 where
   pub entries : length m.entries ≤ most_entries h
   pub answers : length m.answers ≤ most_answers h
 

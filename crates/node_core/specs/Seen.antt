@@ -6,8 +6,8 @@ use Rattle.protocol_model.specs.Turn.{Turn}
 use Rattle.term.specs.NodeSets.{set_of, with_older}
 use Rattle.lock_table.specs.declared.verdict.Verdict.{Verdict}
 use Rattle.lock_table.specs.declared.verdict.Verdict.TheVariants.{Grant}
-use Rattle.locker.specs.Held.{seen}
-use Rattle.lock_calls.specs.Held.{seen as calls_seen}
+use Rattle.locker.specs.RoundState.{seen}
+use Rattle.lock_calls.specs.LockCallsState.{seen as calls_seen}
 use Rattle.transaction.specs.declared.op.Op.{Op}
 use Rattle.transaction.specs.Ops.{op_of}
 use Rattle.node_core.specs.declared.node.Phase.{Phase}
@@ -15,7 +15,7 @@ use Rattle.node_core.specs.declared.node.Phase.TheVariants.{Asking, Waiting, Wri
 use Rattle.node_events.specs.Letters.{send_of}
 use Rattle.node_events.specs.Made.{Made}
 use Rattle.exchange.specs.Lists.{list_under}
-use Rattle.node_core.specs.Held.{Held}
+use Rattle.node_core.specs.CoreState.{CoreState}
 use Rattle.node_events.specs.Seen.{reply_of, answer_of, entry_by, entry_of}
 
 -- where an operation stands that awaits these nodes
@@ -31,7 +31,7 @@ current_of None awaited p = Current.Free
 current_of (Some op) awaited p = phase_of op awaited p
 
 -- the node
-abbrev pub node_of : Held → Node
+abbrev pub node_of : CoreState → Node
 node_of h = record {
   replica = record {
     table = h.table;
@@ -49,7 +49,7 @@ node_of h = record {
 }
 
 -- the node, and what its step has made so far
-abbrev pub turn_of : Held → Made → Turn
+abbrev pub turn_of : CoreState → Made → Turn
 turn_of h m = record {
   node = node_of h;
   sends = map send_of m.letters;
@@ -58,7 +58,7 @@ turn_of h m = record {
 }
 
 -- the same, with the numbers of joins
-abbrev pub turn_by : (ℕ → ℕ) → Held → Made → Turn
+abbrev pub turn_by : (ℕ → ℕ) → CoreState → Made → Turn
 turn_by number h m = record (turn_of h m) { entries = map (entry_by number) m.entries }
 
 -- the lock table grants

@@ -15,7 +15,7 @@ use Rattle.node_events.specs.declared.events.Call.{Call as ClientCall}
 use Rattle.node_events.specs.declared.events.Letter.{Letter}
 use Rattle.node_events.specs.declared.events.Letter.TheVariants.{JoinAsk, Admit, Welcome, Down}
 use Rattle.node_events.specs.declared.events.StepFault.{StepFault}
-use Rattle.node_core.specs.Held.{Held, bound_of}
+use Rattle.node_core.specs.CoreState.{CoreState, bound_of}
 use Rattle.node_events.specs.Made.{Made, entered}
 use Rattle.node_events.specs.declared.events.Reply.{Reply}
 use Rattle.node_events.specs.declared.events.Entry.TheVariants.{Name}
@@ -26,37 +26,37 @@ use Rattle.node_core.specs.Seen.{node_of, turn_of, turn_by}
 use Rattle.node_events.specs.Seen.{unnumbered, call_of, fault_of, reply_of}
 
 -- what no step changes, whatever comes of it
-pub record Keeps (old new : Held) : Type 0 where
+pub record Keeps (old new : CoreState) : Type 0 where
   pub name : new.name ≡ old.name
   pub world : new.world ≡ old.world
 
 -- nor does a rule that leaves the queue alone
-pub record KeepsQueue (old new : Held) : Type 0 where
+pub record KeepsQueue (old new : CoreState) : Type 0 where
   pub name : new.name ≡ old.name
   pub world : new.world ≡ old.world
   pub queue : new.registrar.queue ≡ old.registrar.queue
 
 -- nor the lock calls
-pub record KeepsCalls (old new : Held) : Type 0 where
+pub record KeepsCalls (old new : CoreState) : Type 0 where
   pub name : new.name ≡ old.name
   pub world : new.world ≡ old.world
   pub queue : new.registrar.queue ≡ old.registrar.queue
   pub calls : new.calls ≡ old.calls
 
 -- the node is as before, as the protocol sees it
-pub record IsAsBefore (old new : Held) : Type 0 where
+pub record IsAsBefore (old new : CoreState) : Type 0 where
   pub name : new.name ≡ old.name
   pub world : new.world ≡ old.world
   pub node : node_of new ≡ node_of old
 
 -- A rule of a node n, above all nodes of the world, and a, this node. It makes k and u of what was held and made before
-pub record Makes (rule : ℕ → ℕ → Turn → Turn) (h : Held) (t : Made) (k : Held) (u : Made) : Type 0 where
+pub record Makes (rule : ℕ → ℕ → Turn → Turn) (h : CoreState) (t : Made) (k : CoreState) (u : Made) : Type 0 where
   pub name : k.name ≡ h.name
   pub world : k.world ≡ h.world
   pub turn : turn_of k u ≡ rule (bound_of h.world) h.name (turn_of h t)
 
 -- the same of a rule for the current operation, where there is one
-abbrev pub Works : (AnyOp → ℕ → ℕ → Turn → Turn) → Held → Made → Held → Made → Type 0
+abbrev pub Works : (AnyOp → ℕ → ℕ → Turn → Turn) → CoreState → Made → CoreState → Made → Type 0
 Works rule h t k u = (op : Op) → h.registrar.current ≡ Some op → Makes (rule (op_of op)) h t k u
 
 -- a name call of node a enters what is made, with this reply
@@ -82,7 +82,7 @@ IsAskedWithin world (JoinBy m) = with_older world m ≡ true
 IsAskedWithin world _ = Unit {0}
 
 -- the rule of an event is carried out
-abbrev pub Takes : Event → Held → Made → Held → Made → Type 0
+abbrev pub Takes : Event → CoreState → Made → CoreState → Made → Type 0
 Takes (Call c) h t k u =
     IsAskedWithin h.world c → Makes (λ n a. event n a (set_of h.world) (AnyEvent.Calling (call_of c))) h t k u
 Takes Retry h t k u = Makes (λ n a. event n a (set_of h.world) AnyEvent.Retry) h t k u
@@ -92,7 +92,7 @@ Takes (FromPeer f l) h t k u =
     IsSaidBy h.world h.name f l → Makes (λ n a. receive n a unnumbered f (letter_of l)) h t k u
 
 -- the turn that the protocol has for an event, where the current join of j has the number `number j`
-abbrev pub IsTurn : (ℕ → ℕ) → Event → Held → Turn → Type 0
+abbrev pub IsTurn : (ℕ → ℕ) → Event → CoreState → Turn → Type 0
 IsTurn number (Call c) h u =
     IsAskedWithin h.world c
     → u ≡ event (bound_of h.world) h.name (set_of h.world) (AnyEvent.Calling (call_of c)) (begun (node_of h))
@@ -105,7 +105,7 @@ IsTurn number (FromPeer f l) h u =
     → u ≡ receive (bound_of h.world) h.name number f (letter_of l) (begun (node_of h))
 
 -- why an event is refused, if it is; a letter never is
-abbrev pub refusal_of : Event → Held → Option AnyRefusal
+abbrev pub refusal_of : Event → CoreState → Option AnyRefusal
 refusal_of (Call c) h = first_cause (causes h.name (node_of h) (AnyEvent.Calling (call_of c)))
 refusal_of Retry h = first_cause (causes h.name (node_of h) AnyEvent.Retry)
 refusal_of (Exit p) h = first_cause (causes h.name (node_of h) (AnyEvent.Exiting p))
@@ -129,7 +129,7 @@ GoWithin world a ss = All (λ s. (with_older world s.0 ≡ true) × IsSaidBy wor
 
 -- An event was accepted, and the protocol's node makes its turn. What it sends goes to nodes that have started alone, where it
 -- hears none but those
-pub record Steps (e : Event) (old new : Held) (made : Made) : Type 0 where
+pub record Steps (e : Event) (old new : CoreState) (made : Made) : Type 0 where
   pub name : new.name ≡ old.name
   pub world : new.world ≡ old.world
   pub accepted : refusal_of e old ≡ None

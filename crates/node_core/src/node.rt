@@ -64,9 +64,9 @@ pub struct NodeCore<N: Names> {
 }
 
 impl<N: Names> Model for NodeCore<N> {
-    ghost use Rattle.node_core.specs.Held.{Held, IsWhole};
+    ghost use Rattle.node_core.specs.CoreState.{CoreState, IsWhole};
 
-    ghost Value = { Held };
+    ghost Value = { CoreState };
 
     ghost view = { λ c. record {
       name = c.node;
@@ -105,7 +105,7 @@ impl<N: Names<Memory = Global>> NodeCore<N> {
     ghost use Rattle.std.specs.Prelude.{false, true, None, Some, is_some, ◌+◌, ◌-◌, ◌^◌, min, length, OnOk, OnErr, IfOk};
     ghost use Rattle.std.specs.Option.{option_copied};
     ghost use Rattle.protocol_model.specs.Node.{call_of, holds_global};
-    ghost use Rattle.node_core.specs.Held.{IsWhole, spans_of};
+    ghost use Rattle.node_core.specs.CoreState.{IsWhole, spans_of};
     ghost use Rattle.node_core.specs.Seen.{node_of};
     ghost use Rattle.node_events.specs.declared.events.StepFault.TheVariants.{Memory};
     ghost use Rattle.node_core.specs.Rare.{is_admission, is_rare, most_entries, most_answers, Adds, IsFew};
@@ -444,7 +444,7 @@ impl<N: Names<Memory = Global>> NodeCore<N> {
     ghost use Rattle.protocol_model.specs.Node.{opening_node};
     ghost use Rattle.term.specs.Nodes.{IsFirst};
     ghost use Rattle.term.specs.NodeSets.{set_of, with_older, succeeded};
-    ghost use Rattle.node_core.specs.Held.{AreOf, IsNext, HaveLeft, fresh, fresh_behind};
+    ghost use Rattle.node_core.specs.CoreState.{AreOf, IsNext, HaveLeft, fresh, fresh_behind};
     ghost use Rattle.node_core.specs.Seen.{node_of};
 
     /// A node at its beginning, which was told of these departures: it has its members, and no names, processes and operations.

@@ -10,7 +10,7 @@ use Rattle.node_log.specs.declared.entry.OwnEvent.{OwnEvent}
 use Rattle.node_log.specs.declared.entry.OwnEvent.TheVariants as own
 
 -- one step: its stamp, the seat that called, if one did, the event, and what was answered
-pub record Entry : Type 0 where
+pub record SeatedEntry : Type 0 where
   pub stamp : ℕ
   pub seat : Option ℕ
   pub event : WorldEvent
@@ -19,7 +19,7 @@ pub record Entry : Type 0 where
 -- the log of a node
 pub record Logged : Type 0 where
   pub node : ℕ
-  pub entries : List Entry  -- the oldest first
+  pub entries : List SeatedEntry  -- the oldest first
   pub has_room : Bool  -- for a step more
 
 -- the seat of an event that is kept
@@ -38,7 +38,7 @@ event_in node nodes (Delivery k) = Deliver (slice_index_or nodes k 0) node
 event_in node nodes (Other asked) = event_at node asked.value.event
 
 -- the step that is kept
-abbrev pub entry_in : ℕ → List ℕ → KeptEntry → Entry
+abbrev pub entry_in : ℕ → List ℕ → KeptEntry → SeatedEntry
 entry_in node nodes e = record {
   stamp = e.stamp;
   seat = seat_in e.event;

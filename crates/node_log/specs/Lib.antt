@@ -1,6 +1,6 @@
 pub use Rattle.world_events.specs.Events
 pub use Rattle.world_events.specs.NodeCoreCauses
-pub use Rattle.world_events.specs.NodeCoreHeld
+pub use Rattle.world_events.specs.NodeCoreState
 pub use Rattle.world_events.specs.NodeCoreMade
 pub use Rattle.world_events.specs.NodeCoreSeen
 pub use Rattle.world_events.specs.NodeCoreSteps

@@ -5,7 +5,7 @@ ghost use Rattle.node_log.specs.Forgotten.{step_of};
 
 use crate::entry::OwnEvent;
 use crate::record::Record;
-use past::Log as History;
+use past::Trace as History;
 use std::alloc::{AllocError, Global};
 use std::marker::Model;
 use term::{Node, NodeSet};

@@ -6,9 +6,9 @@ use Rattle.registry_model.specs.Process.{Process}
 use Rattle.protocol_model.specs.Event.{Answer as AnyAnswer}
 use Rattle.node_log.specs.declared.Answer.{Answer}
 use Rattle.node_log.specs.declared.StepFault.TheVariants.{NotLive}
-use Rattle.node_log.specs.Entries.{Entry}
+use Rattle.node_log.specs.Entries.{SeatedEntry}
 use Rattle.node_log.specs.NodeEventsSeen.{answer_of}
-use Rattle.node_log.specs.NodeCoreHeld.{Held}
+use Rattle.node_log.specs.NodeCoreState.{CoreState}
 use Rattle.node_loop.specs.declared.item.Ticket.{Ticket}
 use Rattle.node_loop.specs.declared.replies.TaskFault.{TaskFault}
 use Rattle.node_loop.specs.declared.replies.TaskFault.TheVariants.{NodeLeft, Step}
@@ -39,7 +39,7 @@ front : {X : Type 0} (P : X → Type 0) (xs ys : List X) → All P (xs ++ ys) �
 front P xs ys h = All-weaker (Contains xs) P (λ x c. All-contains P (xs ++ ys) x h (Contains-append_left xs ys x c)) xs (All-contains_itself xs)
 
 -- an answer stays in a log that gets an entry more
-stays : (a b : Written) (e : Entry) → b ≡ record a { entries = a.entries ++ e ∷ [] } → (told : Told) → IsLogged a told → IsLogged b told
+stays : (a b : Written) (e : SeatedEntry) → b ≡ record a { entries = a.entries ++ e ∷ [] } → (told : Told) → IsLogged a told → IsLogged b told
 stays a b e is told = go told.outcome
   where
     go : (outcome : Result Came TaskFault) → Says a outcome → Says b outcome
@@ -62,7 +62,7 @@ module _ (log : Written) where
   told_each f each [] = All-nil (IsLogged log)
   told_each f each (x ∷ xs) = All-append (IsLogged log) (f x) (flat_map f xs) (each x) (told_each f each xs)
 
-  of_dropped : (h : Held) (c : Caller) → All (IsLogged log) (drop_told h c)
+  of_dropped : (h : CoreState) (c : Caller) → All (IsLogged log) (drop_told h c)
   of_dropped h c = go (is_dropped h c) c.holder
     where
       go : (dropped : Bool) (holder : Option Process) → All (IsLogged log) (if dropped then dead_told holder c.ticket else [])
@@ -97,7 +97,7 @@ module _ (log : Written) where
         (told_so (addressee own k.calls a) (Ok (Answered stamp a)) (All-head (LogsAnswer log stamp) a rest given)))
 
     -- behind a step whose answers are logged
-    behind_step : (course : Course) (h : Held) (answers : List Answer) → All (LogsAnswer log stamp) (map answer_of answers) → (k : Kept)
+    behind_step : (course : Course) (h : CoreState) (answers : List Answer) → All (LogsAnswer log stamp) (map answer_of answers) → (k : Kept)
         → All (IsLogged log) k.replies → All (IsLogged log) (settled stamp course own h answers k).replies
     behind_step course h answers given k before =
         All-append (IsLogged log) told.replies (flat_map (drop_told h) told.calls)
@@ -122,7 +122,7 @@ module _ (k : Cause) (a b : Looping) (h : Logs a) (answers : List Answer) (log :
     given = c;
   }) (map answer_of answers) (All-contains_itself (map answer_of answers))
 
-  due : (core : Held) → All (IsLogged b.log) (desk_of k a core answers).replies
+  due : (core : CoreState) → All (IsLogged b.log) (desk_of k a core answers).replies
   due core = behind_step b.log (stamp_of k a) k.own k.course core answers here a.desk
       (All-weaker (IsLogged a.log) (IsLogged b.log) (stays a.log b.log (entry_of k a answers) log) a.desk.replies h)
 
@@ -183,7 +183,7 @@ pub next_is_logged : (name : ℕ) (b : Looping) → IsLoopOf name b → (t : Tic
     → b.desk.replies ≡ told_answer t stamp answer ∷ later → LogsAnswer b.log stamp answer
 next_is_logged name b is = next_logged b (of_loop Logs of_loops name b is)
 
-pub next_is_logged_from : (start : ℕ) (core : Held) (b : Looping) → IsLoopFrom start core b → (t : Ticket) (stamp : ℕ) (answer : AnyAnswer)
+pub next_is_logged_from : (start : ℕ) (core : CoreState) (b : Looping) → IsLoopFrom start core b → (t : Ticket) (stamp : ℕ) (answer : AnyAnswer)
     (later : List Told) → b.desk.replies ≡ told_answer t stamp answer ∷ later → LogsAnswer b.log stamp answer
 next_is_logged_from start core b is = next_logged b (of_loop_from Logs of_loops start core b is)
 

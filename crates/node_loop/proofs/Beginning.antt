@@ -7,7 +7,7 @@ use Rattle.protocol_model.specs.Node.{Node, opening_node}
 use Rattle.protocol_model.specs.World.{Opening, in_world, in_cluster}
 use Rattle.closings.specs.Alone.{node_behind}
 use Rattle.closings.specs.Guarded.{Vouches}
-use Rattle.node_log.specs.NodeCoreHeld.{Held}
+use Rattle.node_log.specs.NodeCoreState.{CoreState}
 use Rattle.node_log.specs.NodeCoreSeen.{node_of}
 use Rattle.node_log.specs.Seen.{seen_entry}
 use Rattle.tray.specs.Held.{none_for}
@@ -30,21 +30,21 @@ nothing_waits t (c ∷ cs) = go (c == t) (nothing_waits t cs)
     go true h = refl
     go false h = h
 
-pub begins_sound : (h : Held) (a : Looping) → IsStrictlyIncreasing h.world → a.core ≡ h → a.world ≡ h.world
+pub begins_sound : (h : CoreState) (a : Looping) → IsStrictlyIncreasing h.world → a.core ≡ h → a.world ≡ h.world
     → a.log ≡ record { node = h.name; entries = [] } → a.tray ≡ map none_for h.world → BeginsSound h a
 begins_sound h a rising core world log tray o I opens = record {
   of = subst (IsNodeOf o) (sym core) I;
-  named = ap (λ (l : Written). l.node) log ∙ ap (λ (k : Held). k.name) (sym core);
-  world = world ∙ ap (λ (k : Held). k.world) (sym core);
-  rising = subst (λ (k : Held). IsStrictlyIncreasing k.world) (sym core) rising;
+  named = ap (λ (l : Written). l.node) log ∙ ap (λ (k : CoreState). k.name) (sym core);
+  world = world ∙ ap (λ (k : CoreState). k.world) (sym core);
+  rising = subst (λ (k : CoreState). IsStrictlyIncreasing k.world) (sym core) rising;
   course = [];
   logged = ap (λ (l : Written). map seen_entry l.entries) (sym log);
   plays = tt;
-  node = subst (λ (k : Held). opened o k ≡ node_of k) (sym core) (sym opens);
+  node = subst (λ (k : CoreState). opened o k ≡ node_of k) (sym core) (sym opens);
   below = tt;
   running = λ l. (tt, refl);
   known = λ f strange. refl;
-  tray = ap receivers tray ∙ (receivers_of h.world ∙ ap (λ (k : Held). k.world) (sym core));
+  tray = ap receivers tray ∙ (receivers_of h.world ∙ ap (λ (k : CoreState). k.world) (sym core));
   sends = λ t known. ap letters_in (sym (nothing_waits t h.world) ∙ ap (waiting_for t) (sym tray));
 }
 

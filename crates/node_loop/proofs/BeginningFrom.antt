@@ -4,7 +4,7 @@ use Rattle.std.specs.List.Sorted.{IsStrictlyIncreasing}
 use Rattle.registry_model.specs.Table.{Table}
 use Rattle.protocol_model.specs.Node.{Node}
 use Rattle.protocol_model.specs.World.{Opening}
-use Rattle.node_log.specs.NodeCoreHeld.{Held}
+use Rattle.node_log.specs.NodeCoreState.{CoreState}
 use Rattle.node_log.specs.NodeCoreSeen.{node_of}
 use Rattle.node_log.specs.Seen.{seen_entry}
 use Rattle.tray.specs.Held.{none_for}
@@ -14,13 +14,13 @@ use Rattle.node_loop.specs.Returning.{IsNodeAmong, Start, BeginsSoundFrom, EndsS
 use Rattle.node_loop.proofs.Beginning.{receivers_of, nothing_waits}
 use Rattle.node_loop.proofs.StandingFrom.{ends_still}
 
-pub begins_sound_from : (h : Held) (a : Looping) (stamp : ℕ) → IsStrictlyIncreasing h.world → a.core ≡ h → a.world ≡ h.world
+pub begins_sound_from : (h : CoreState) (a : Looping) (stamp : ℕ) → IsStrictlyIncreasing h.world → a.core ≡ h → a.world ≡ h.world
     → a.log ≡ record { node = h.name; entries = [] } → a.tray ≡ map none_for h.world → a.stamp ≡ stamp → BeginsSoundFrom h stamp a
 begins_sound_from h a stamp rising core world log tray same o I = record {
   of = subst (IsNodeAmong o) (sym core) I;
-  named = ap (λ (l : Written). l.node) log ∙ ap (λ (k : Held). k.name) (sym core);
-  world = world ∙ ap (λ (k : Held). k.world) (sym core);
-  rising = subst (λ (k : Held). IsStrictlyIncreasing k.world) (sym core) rising;
+  named = ap (λ (l : Written). l.node) log ∙ ap (λ (k : CoreState). k.name) (sym core);
+  world = world ∙ ap (λ (k : CoreState). k.world) (sym core);
+  rising = subst (λ (k : CoreState). IsStrictlyIncreasing k.world) (sym core) rising;
   course = [];
   logged = ap (λ (l : Written). map seen_entry l.entries) (sym log);
   plays = tt;
@@ -30,7 +30,7 @@ begins_sound_from h a stamp rising core world log tray same o I = record {
   below = tt;
   running = λ l. (tt, refl);
   known = λ f strange. refl;
-  tray = ap receivers tray ∙ (receivers_of h.world ∙ ap (λ (k : Held). k.world) (sym core));
+  tray = ap receivers tray ∙ (receivers_of h.world ∙ ap (λ (k : CoreState). k.world) (sym core));
   sends = λ t there. ap letters_in (sym (nothing_waits t h.world) ∙ ap (waiting_for t) (sym tray));
   older = λ t out before. ([], refl);
   later = λ t out. (refl, λ l. refl);

@@ -1,6 +1,6 @@
 -- What holds of a loop that begins, and what each of its moves keeps, holds of the loop of a node.
 use Rattle.std.proofs.Common.{ℕ, zero, suc, sym, subst, inl, inr}
-use Rattle.node_log.specs.NodeCoreHeld.{Held}
+use Rattle.node_log.specs.NodeCoreState.{CoreState}
 use Rattle.node_log.specs.Openings.{opening_core}
 use Rattle.node_loop.specs.Held.{Looping, with_next}
 use Rattle.node_loop.specs.Coming.{begun, HandsOut, HandsOver, ComesBy, ComesFrom, IsLoopOf, IsLoopFrom}
@@ -8,14 +8,14 @@ use Rattle.node_loop.proofs.Moving.{IsKept, turns}
 
 -- a loop begins so, and each move keeps it: a turn, a reply handed out, what is owed handed over, and that the next node of a name has started
 pub record IsOfLoops (P : Looping → Type 0) : Type 0 where
-  pub begins : (stamp : ℕ) (core : Held) → P (begun stamp core)
+  pub begins : (stamp : ℕ) (core : CoreState) → P (begun stamp core)
   pub kept : IsKept P
   pub hands_out : (a b : Looping) → P a → HandsOut a b → P b
   pub hands_over : (a b : Looping) → P a → HandsOver a b → P b
   pub replaces : (older next : ℕ) (a : Looping) → P a → P (with_next older next a)
 
 module _ (P : Looping → Type 0) (K : IsOfLoops P) where
-  comes : (n stamp : ℕ) (core : Held) (b : Looping) → ComesBy n stamp core b → P b
+  comes : (n stamp : ℕ) (core : CoreState) (b : Looping) → ComesBy n stamp core b → P b
   comes zero stamp core b e = subst P (sym e) (K.begins stamp core)
   comes (suc n) stamp core b x = elim x.2 [
     | inl T ↦ turns P K.kept x.0 b (comes n stamp core x.0 x.1) T
@@ -26,7 +26,7 @@ module _ (P : Looping → Type 0) (K : IsOfLoops P) where
   pub of_loop : (name : ℕ) (b : Looping) → IsLoopOf name b → P b
   of_loop name b is = comes is.moves is.stamp (opening_core is.nodes is.cluster name) b is.comes
 
-  comes_from : (n stamp : ℕ) (core : Held) (b : Looping) → ComesFrom n stamp core b → P b
+  comes_from : (n stamp : ℕ) (core : CoreState) (b : Looping) → ComesFrom n stamp core b → P b
   comes_from zero stamp core b e = subst P (sym e) (K.begins stamp core)
   comes_from (suc n) stamp core b x = elim x.2 [
     | inl T ↦ turns P K.kept x.0 b (comes_from n stamp core x.0 x.1) T
@@ -36,5 +36,5 @@ module _ (P : Looping → Type 0) (K : IsOfLoops P) where
   ]
 
   -- and of one whose world's nodes come back
-  pub of_loop_from : (stamp : ℕ) (core : Held) (b : Looping) → IsLoopFrom stamp core b → P b
+  pub of_loop_from : (stamp : ℕ) (core : CoreState) (b : Looping) → IsLoopFrom stamp core b → P b
   of_loop_from stamp core b is = comes_from is.moves stamp core b is.comes

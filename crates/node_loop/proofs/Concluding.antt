@@ -1,11 +1,11 @@
 -- What comes behind a step of the core makes the step of the loop.
 use Rattle.std.proofs.Common.{◌≡◌, ◌<◌, ◌^◌, ℕ, Bool, true, false, inl, inr, Option, Ok, Err, List, [], ◌∷◌, ◌++◌, refl, sym, ap, subst, ◌∙◌, MatchBool, append-nil, arith}
 use Rattle.node_log.specs.NodeEvents.{Event as NodeEvent}
-use Rattle.node_log.specs.NodeCoreHeld.{Held}
+use Rattle.node_log.specs.NodeCoreState.{CoreState}
 use Rattle.node_log.specs.NodeCoreMade.{Made as Turn}
 use Rattle.node_log.specs.NodeCoreSteps.{Steps}
 use Rattle.node_log.specs.declared.WorldEvent.{WorldEvent}
-use Rattle.node_log.specs.Entries.{Entry}
+use Rattle.node_log.specs.Entries.{SeatedEntry}
 use Rattle.node_log.specs.Logs.{answered}
 use Rattle.node_loop.specs.declared.item.Ticket.{Ticket}
 use Rattle.node_loop.specs.declared.fault.TurnFault.{TurnFault}
@@ -21,10 +21,10 @@ use Rattle.node_loop.proofs.Letters.{puts_at}
 use Rattle.node_loop.proofs.Telling.{begins_on, begins_as, left_begins}
 
 -- the entry is last in the log, and has no answers yet
-abbrev pub begun_entry : Cause → Looping → Entry
+abbrev pub begun_entry : Cause → Looping → SeatedEntry
 begun_entry k a = entry_of k a []
 
-module _ (k : Cause) (a : Looping) (core : Held) (log : Written) (owed : Owed) (s : ℕ) (own : Option Ticket) (course : Course) (turn : Turn) (b : Looping) where
+module _ (k : Cause) (a : Looping) (core : CoreState) (log : Written) (owed : Owed) (s : ℕ) (own : Option Ticket) (course : Course) (turn : Turn) (b : Looping) where
   abbrev logged_by : Written
   logged_by = record a.log { entries = a.log.entries ++ entry_of k a turn.answers ∷ [] }
 
@@ -33,7 +33,7 @@ module _ (k : Cause) (a : Looping) (core : Held) (log : Written) (owed : Owed) (
       → b.log ≡ record log { entries = answered turn.answers log.entries } → b.log ≡ logged_by
   log_path l e =
       e ∙ ap (λ (x : Written). record x { entries = answered turn.answers x.entries }) l
-      ∙ ap (λ (es : List Entry). record a.log { entries = es }) (answered_last turn.answers a.log.entries (begun_entry k a))
+      ∙ ap (λ (es : List SeatedEntry). record a.log { entries = es }) (answered_last turn.answers a.log.entries (begun_entry k a))
 
   -- the desk, by the names that the step has
   desk_path : s ≡ stamp_of k a → own ≡ k.own → course ≡ k.course → b.core ≡ core
@@ -46,7 +46,7 @@ module _ (k : Cause) (a : Looping) (core : Held) (log : Written) (owed : Owed) (
       → IsNoted k a b × KeepsOwing a b
 
   stepped_to : b.core ≡ core → Steps k.event a.core core turn → Steps k.event a.core b.core turn
-  stepped_to same step = subst (λ (h : Held). Steps k.event a.core h turn) (sym same) step
+  stepped_to same step = subst (λ (h : CoreState). Steps k.event a.core h turn) (sym same) step
 
   module _ {E : Type 0} (step : Steps k.event a.core core turn) (l : log ≡ record a.log { entries = a.log.entries ++ begun_entry k a ∷ [] }) (e : s ≡ stamp_of k a) (o : own ≡ k.own) (q : course ≡ k.course) (owes : OwesSo) where
     -- so the step is made
@@ -81,7 +81,7 @@ module _ (k : Cause) (a : Looping) (core : Held) (log : Written) (owed : Owed) (
     }
 
 -- the core's step, of what its event is
-pub stepped : (e f : NodeEvent) (old new : Held) (turn : Turn) → e ≡ f → Steps e old new turn → Steps f old new turn
+pub stepped : (e f : NodeEvent) (old new : CoreState) (turn : Turn) → e ≡ f → Steps e old new turn → Steps f old new turn
 stepped e f old new turn p h = subst (λ (x : NodeEvent). Steps x old new turn) p h
 
 -- the log, where a step was put at its end, with room that was made
@@ -107,7 +107,7 @@ ends_left k a m b M is owing told = (
   unspent k a (stamp_of k a) refl M.fits,
   inr (record {
     turn = M.turn;
-    step = subst (λ (h : Held). Steps k.event a.core h M.turn) (sym core) M.step;
+    step = subst (λ (h : CoreState). Steps k.event a.core h M.turn) (sym core) M.step;
     log = ap (λ (l : Looping). l.log) is ∙ M.log;
     tray = record {
       put = M.turn.letters;
@@ -116,7 +116,7 @@ ends_left k a m b M is owing told = (
       tray = ap (λ (l : Looping). l.tray) is ∙ M.tray;
     };
     replies = begins_as _ _ _ _ refl (ap (λ (d : Kept). (left_by d).replies)
-        (M.desk ∙ ap (λ (h : Held). desk_of k a h M.turn.answers) (sym core))) told;
+        (M.desk ∙ ap (λ (h : CoreState). desk_of k a h M.turn.answers) (sym core))) told;
     noted = owing.0;
     owing = owing.1;
   }),

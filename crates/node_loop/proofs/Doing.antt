@@ -10,7 +10,7 @@ use Rattle.protocol_model.specs.Calling.{event}
 use Rattle.protocol_model.specs.Reading.{receive}
 use Rattle.protocol_model.specs.World.{Opening, in_world, other}
 use Rattle.protocol_model.specs.World.{WorldEvent as AnyWorldEvent}
-use Rattle.closings.specs.Alone.{Stamped as StampedLetter, Entry as SeenEntry, Made, IsTurnOf}
+use Rattle.closings.specs.Alone.{Stamped as StampedLetter, LogEntry as SeenEntry, Made, IsTurnOf}
 use Rattle.closings.specs.Guarded.{SaysFit, ReadsIfFit, DoesIfFit}
 use Rattle.term.specs.Nodes.{IsFirst}
 use Rattle.term.specs.NodeSets.{set_of, with_older}
@@ -18,12 +18,12 @@ use Rattle.term.proofs.Older.{held}
 use Rattle.node_log.specs.declared.Call.{Call as ClientCall}
 use Rattle.node_log.specs.declared.Call.TheVariants.{Spawn, Whereis, RegisteredNames, Notices, Register, ReRegister, Unregister, SetLock, DelLock, Join as JoinBy}
 use Rattle.node_log.specs.NodeEvents.TheVariants.{FromPeer}
-use Rattle.node_log.specs.declared.Event.{Event}
-use Rattle.node_log.specs.declared.Event.TheVariants.{Call, Retry, Exit, Leave}
+use Rattle.node_log.specs.declared.LocalEvent.{LocalEvent}
+use Rattle.node_log.specs.declared.LocalEvent.TheVariants.{Call, Retry, Exit, Leave}
 use Rattle.node_log.specs.declared.Letter.{Letter}
 use Rattle.node_log.specs.NodeEventsLetters.{letter_of, send_of}
 use Rattle.node_log.specs.NodeEventsSeen.{answer_of, unnumbered}
-use Rattle.node_log.specs.NodeCoreHeld.{Held, bound_of}
+use Rattle.node_log.specs.NodeCoreState.{CoreState, bound_of}
 use Rattle.node_log.specs.NodeCoreMade.{Made as Turn}
 use Rattle.node_log.specs.NodeCoreSeen.{node_of, turn_by}
 use Rattle.node_log.specs.NodeCoreSteps.{Steps, IsSaidBy, IsAskedWithin, IsHeardWithin, GoWithin}
@@ -64,7 +64,7 @@ asks nodes (DelLock p id asked) known = tt
 asks nodes (JoinBy m) known = known
 
 -- the step of an event of its own is the protocol's
-pub own_turn : (h core : Held) (turn : Turn) (e : Event) → Steps (node_event e) h core turn → knows_contact h.world e ≡ true
+pub own_turn : (h core : CoreState) (turn : Turn) (e : LocalEvent) → Steps (node_event e) h core turn → knows_contact h.world e ≡ true
     → turn_by unnumbered core turn ≡ event (bound_of h.world) h.name (set_of h.world) (own_event_of e) (begun (node_of h))
 own_turn h core turn (Call c) S known = S.turn unnumbered (asks h.world c known)
 own_turn h core turn Retry S known = S.turn unnumbered
@@ -72,10 +72,10 @@ own_turn h core turn (Exit p) S known = S.turn unnumbered
 own_turn h core turn Leave S known = S.turn unnumbered
 
 -- a step that a core made, and its entry, as the protocol has them
-abbrev pub made : Held → Turn → SeenEntry → Made
+abbrev pub made : CoreState → Turn → SeenEntry → Made
 made core turn entry = record { entry = entry; after = node_of core; sends = map send_of turn.letters }
 
-module _ (o : Opening) (h : Held) (I : IsNodeOf o h) where
+module _ (o : Opening) (h : CoreState) (I : IsNodeOf o h) where
   inside : (c : ℕ) → set_of h.world c ≡ true → in_world o c ≡ true
   inside c e = ap (λ (s : Nodes). s c) I.inside ∙ e
 
@@ -83,7 +83,7 @@ module _ (o : Opening) (h : Held) (I : IsNodeOf o h) where
   here = inside h.name I.here
 
   -- an event names no other node than its contact
-  pub other_inside : (e : Event) → knows_contact h.world e ≡ true → in_world o (other (AnyWorldEvent.At h.name (own_event_of e))) ≡ true
+  pub other_inside : (e : LocalEvent) → knows_contact h.world e ≡ true → in_world o (other (AnyWorldEvent.At h.name (own_event_of e))) ≡ true
   other_inside (Call Spawn) known = here
   other_inside (Call (Whereis x)) known = here
   other_inside (Call RegisteredNames) known = here
@@ -98,13 +98,13 @@ module _ (o : Opening) (h : Held) (I : IsNodeOf o h) where
   other_inside (Exit p) known = here
   other_inside Leave known = here
 
-  hears : (e : Event) → knows_contact h.world e ≡ true → IsHeardWithin h.world h.name (node_event e)
+  hears : (e : LocalEvent) → knows_contact h.world e ≡ true → IsHeardWithin h.world h.name (node_event e)
   hears (Call c) known = asks h.world c known
   hears Retry known = tt
   hears (Exit p) known = tt
   hears Leave known = tt
 
-  module _ (core : Held) (turn : Turn) (entry : SeenEntry) (answered : entry.answers ≡ map answer_of turn.answers) where
+  module _ (core : CoreState) (turn : Turn) (entry : SeenEntry) (answered : entry.answers ≡ map answer_of turn.answers) where
     is_turn : (number : ℕ → ℕ) (u : AnyTurn) → turn_by number core turn ≡ u → IsTurnOf (made core turn entry) u
     is_turn number u e = record {
       node = sym (ap (λ (x : AnyTurn). x.node) e);
@@ -121,14 +121,14 @@ module _ (o : Opening) (h : Held) (I : IsNodeOf o h) where
         → IsTurnOf (made core turn entry) (event o.bound h.name (in_world o) e (begun (node_of h)))
     event_is e same = is_turn unnumbered _ (same ∙ λ j. event (sym I.bound j) h.name (sym I.inside j) e (begun (node_of h)))
 
-    accepts : (e : Event) → Steps (node_event e) h core turn → first_cause (causes h.name (node_of h) (own_event_of e)) ≡ None
+    accepts : (e : LocalEvent) → Steps (node_event e) h core turn → first_cause (causes h.name (node_of h) (own_event_of e)) ≡ None
     accepts (Call c) S = S.accepted
     accepts Retry S = S.accepted
     accepts (Exit p) S = S.accepted
     accepts Leave S = S.accepted
 
     -- an event of its own
-    pub own_does : (letters : ℕ → List StampedLetter) (e : Event) → Steps (node_event e) h core turn → knows_contact h.world e ≡ true
+    pub own_does : (letters : ℕ → List StampedLetter) (e : LocalEvent) → Steps (node_event e) h core turn → knows_contact h.world e ≡ true
         → DoesIfFit (IsSaid (in_world o)) o letters (node_of h) (made core turn entry) (AnyWorldEvent.At h.name (own_event_of e))
     own_does letters e S known = ((accepts e S, event_is (own_event_of e) (own_turn h core turn e S known)), says_fit (S.within (hears e known)))
 

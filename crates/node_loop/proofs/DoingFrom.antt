@@ -12,18 +12,18 @@ use Rattle.protocol_model.specs.Calling.{event}
 use Rattle.protocol_model.specs.Reading.{receive}
 use Rattle.protocol_model.specs.World.{Opening, in_world, other}
 use Rattle.protocol_model.specs.World.{WorldEvent as AnyWorldEvent}
-use Rattle.closings.specs.Alone.{Stamped as StampedLetter, Entry as SeenEntry, Made, IsTurnOf, Reads, Does}
+use Rattle.closings.specs.Alone.{Stamped as StampedLetter, LogEntry as SeenEntry, Made, IsTurnOf, Reads, Does}
 use Rattle.term.specs.NodeSets.{set_of, with_older}
 use Rattle.term.proofs.Older.{held}
 use Rattle.node_log.specs.declared.Call.TheVariants.{Spawn, Whereis, RegisteredNames, Notices, Register, ReRegister, Unregister, SetLock, DelLock, Join as JoinBy}
 use Rattle.node_log.specs.NodeEvents.{Event as NodeEvent}
 use Rattle.node_log.specs.NodeEvents.TheVariants as node
-use Rattle.node_log.specs.declared.Event.{Event}
-use Rattle.node_log.specs.declared.Event.TheVariants.{Call, Retry, Exit, Leave}
+use Rattle.node_log.specs.declared.LocalEvent.{LocalEvent}
+use Rattle.node_log.specs.declared.LocalEvent.TheVariants.{Call, Retry, Exit, Leave}
 use Rattle.node_log.specs.declared.Letter.{Letter}
 use Rattle.node_log.specs.NodeEventsLetters.{letter_of, send_of}
 use Rattle.node_log.specs.NodeEventsSeen.{answer_of, unnumbered}
-use Rattle.node_log.specs.NodeCoreHeld.{Held, bound_of}
+use Rattle.node_log.specs.NodeCoreState.{CoreState, bound_of}
 use Rattle.node_log.specs.NodeCoreMade.{Made as Turn}
 use Rattle.node_log.specs.NodeCoreSeen.{node_of, turn_by}
 use Rattle.node_log.specs.NodeCoreSteps.{Steps, IsSaidBy, IsHeardWithin, GoWithin}
@@ -32,12 +32,12 @@ use Rattle.node_loop.specs.Returning.{IsNodeAmong}
 use Rattle.node_loop.proofs.Doing.{asks, own_turn}
 
 -- what a step sends
-abbrev pub sends_of : Opening → Held → NodeEvent → Turn → List Send
+abbrev pub sends_of : Opening → CoreState → NodeEvent → Turn → List Send
 sends_of o h node.Leave turn = (event o.bound h.name (in_world o) AnyEvent.Leave (begun (node_of h))).sends
 sends_of o h e turn = map send_of turn.letters
 
 -- a step that a core made, and its entry, as the protocol has them
-abbrev pub made_from : Opening → Held → NodeEvent → Held → Turn → SeenEntry → Made
+abbrev pub made_from : Opening → CoreState → NodeEvent → CoreState → Turn → SeenEntry → Made
 made_from o h e core turn entry = record { entry = entry; after = node_of core; sends = sends_of o h e turn }
 
 -- nothing goes to a node that hasn't started, where all go to nodes that have
@@ -51,18 +51,18 @@ none_to world a t (s ∷ ss) go strange = elim (cases_eq s.0 t) [
 ]
 
 -- of an event of its own it relies on its contact alone
-pub heard_own : (h : Held) (e : Event) → knows_contact h.world e ≡ true → IsHeardWithin h.world h.name (node_event e)
+pub heard_own : (h : CoreState) (e : LocalEvent) → knows_contact h.world e ≡ true → IsHeardWithin h.world h.name (node_event e)
 heard_own h (Call c) known = asks h.world c known
 heard_own h Retry known = tt
 heard_own h (Exit p) known = tt
 heard_own h Leave known = tt
 
-module _ (o : Opening) (h : Held) (I : IsNodeAmong o h) where
+module _ (o : Opening) (h : CoreState) (I : IsNodeAmong o h) where
   pub here_among : in_world o h.name ≡ true
   here_among = I.inside h.name (held h.world h.name I.here)
 
   -- an event names no other node than its contact
-  pub other_among : (e : Event) → knows_contact h.world e ≡ true → in_world o (other (AnyWorldEvent.At h.name (own_event_of e))) ≡ true
+  pub other_among : (e : LocalEvent) → knows_contact h.world e ≡ true → in_world o (other (AnyWorldEvent.At h.name (own_event_of e))) ≡ true
   other_among (Call Spawn) known = here_among
   other_among (Call (Whereis x)) known = here_among
   other_among (Call RegisteredNames) known = here_among
@@ -77,7 +77,7 @@ module _ (o : Opening) (h : Held) (I : IsNodeAmong o h) where
   other_among (Exit p) known = here_among
   other_among Leave known = here_among
 
-  module _ (core : Held) (turn : Turn) (entry : SeenEntry) (answered : entry.answers ≡ map answer_of turn.answers) where
+  module _ (core : CoreState) (turn : Turn) (entry : SeenEntry) (answered : entry.answers ≡ map answer_of turn.answers) where
     is_turn : (e : NodeEvent) → sends_of o h e turn ≡ map send_of turn.letters → (number : ℕ → ℕ) (u : AnyTurn) → turn_by number core turn ≡ u
         → IsTurnOf (made_from o h e core turn entry) u
     is_turn e sends number u same = record {
@@ -87,7 +87,7 @@ module _ (o : Opening) (h : Held) (I : IsNodeAmong o h) where
     }
 
     -- an event of its own
-    pub own_does_from : (letters : ℕ → List StampedLetter) (e : Event) → Steps (node_event e) h core turn → knows_contact h.world e ≡ true
+    pub own_does_from : (letters : ℕ → List StampedLetter) (e : LocalEvent) → Steps (node_event e) h core turn → knows_contact h.world e ≡ true
         → Does o letters (node_of h) (made_from o h (node_event e) core turn entry) (AnyWorldEvent.At h.name (own_event_of e))
     own_does_from letters (Call c) S known = (
       S.accepted,
@@ -127,12 +127,12 @@ module _ (o : Opening) (h : Held) (I : IsNodeAmong o h) where
         )
 
   -- to a node that it knows to be at present it sends what the protocol's node does
-  module _ (core : Held) (turn : Turn) (t : ℕ) where
+  module _ (core : CoreState) (turn : Turn) (t : ℕ) where
     to_all : (w : ℕ) (S : ℕ → Bool) → sent_to t (event w h.name S AnyEvent.Leave (begun (node_of h))).sends
         ≡ (if nat_lt t w && (S t && not (t == h.name)) then AnyLetter.Down ∷ [] else [])
     to_all w S = sent_to-all w (λ c. S c && not (c == h.name)) AnyLetter.Down t
 
-    pub sent_same : (e : Event) → Steps (node_event e) h core turn → knows_contact h.world e ≡ true → set_of h.world t ≡ true
+    pub sent_same : (e : LocalEvent) → Steps (node_event e) h core turn → knows_contact h.world e ≡ true → set_of h.world t ≡ true
         → sent_to t (sends_of o h (node_event e) turn) ≡ sent_to t (map send_of turn.letters)
     sent_same (Call c) S known there = refl
     sent_same Retry S known there = refl

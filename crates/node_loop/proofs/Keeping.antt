@@ -11,12 +11,12 @@ use Rattle.closings.specs.Alone.{Stamped as StampedLetter, unread_after, is_leav
 use Rattle.closings.specs.Guarded.{DoesIfFit}
 use Rattle.link.specs.declared.faults.LinkFault.{LinkFault}
 use Rattle.node_log.specs.declared.Answer.{Answer}
-use Rattle.node_log.specs.declared.Event.{Event}
-use Rattle.node_log.specs.declared.Event.TheVariants.{Call, Retry, Exit, Leave}
+use Rattle.node_log.specs.declared.LocalEvent.{LocalEvent}
+use Rattle.node_log.specs.declared.LocalEvent.TheVariants.{Call, Retry, Exit, Leave}
 use Rattle.node_log.specs.declared.WorldEvent.TheVariants.{At, Deliver}
 use Rattle.node_log.specs.Events.{event_of, knows_contact, is_leave as leaves_by}
 use Rattle.node_log.specs.NodeEventsSeen.{answer_of}
-use Rattle.node_log.specs.NodeCoreHeld.{Held}
+use Rattle.node_log.specs.NodeCoreState.{CoreState}
 use Rattle.node_log.specs.NodeCoreMade.{Made as Turn}
 use Rattle.node_log.specs.NodeCoreSeen.{node_of}
 use Rattle.node_log.specs.NodeCoreSteps.{Steps, IsAsBefore}
@@ -41,7 +41,7 @@ use Rattle.node_loop.proofs.Doing.{made, other_inside, own_does, letter_does}
 use Rattle.node_loop.proofs.Standing.{besides, ends_still, ends_more, stands_more, sent_off, taken}
 
 -- the node is as it was
-as_it_is : (h : Held) → IsAsBefore h h
+as_it_is : (h : CoreState) → IsAsBefore h h
 as_it_is h = record { name = refl; world = refl; node = refl }
 
 left_both : (x y : Bool) → (x && y) ≡ true → x ≡ true
@@ -59,7 +59,7 @@ due_runs a e = not_false a.left (left_both (not a.left) (can_retry (node_of a.co
 free_runs : (a : Looping) → is_free_to_leave a ≡ true → a.left ≡ false
 free_runs a e = not_false a.left (left_both (not a.left) _ (left_both (has_leave a) _ e))
 
-stays_by : (n : ℕ) (e : Event) → leaves_by e ≡ false → is_leave (event_of (At n e)) ≡ false
+stays_by : (n : ℕ) (e : LocalEvent) → leaves_by e ≡ false → is_leave (event_of (At n e)) ≡ false
 stays_by n (Call c) h = refl
 stays_by n Retry h = refl
 stays_by n (Exit p) h = refl
@@ -74,12 +74,12 @@ module _ (o : Opening) (d : Dealt) where
   record Fits (unread : ℕ → List StampedLetter) (a : Looping) (k : Cause) : Type 0 where
     own : place (event_of k.logged) ≡ a.core.name
     known : in_world o (other (event_of k.logged)) ≡ true
-    does : (core : Held) (turn : Turn) → Steps k.event a.core core turn
+    does : (core : CoreState) (turn : Turn) → Steps k.event a.core core turn
         → DoesIfFit (IsSaid (in_world o)) o unread (node_of a.core) (made core turn (seen_entry (entry_of k a turn.answers))) (event_of k.logged)
     read : unread_after (event_of k.logged) unread ≡ (λ f. [])
 
   -- an event of its own
-  by_own : (a : Looping) (S : IsSound o a d) (own : Option Ticket) (e : Event) → knows_contact a.core.world e ≡ true
+  by_own : (a : Looping) (S : IsSound o a d) (own : Option Ticket) (e : LocalEvent) → knows_contact a.core.world e ≡ true
       → Fits (λ f. []) a (by_event own e a)
   by_own a S own e known = record {
     own = refl;
@@ -119,7 +119,7 @@ module _ (o : Opening) (d : Dealt) where
         (ap (λ (l : Looping). l.tray) is ∙ M.tray) (ap (λ (l : Looping). l.world) is ∙ M.world) stays)
 
     -- or the thread ends within it
-    ends : (why : TurnFault) (k : Cause) (due : Held → List Answer → Kept) → Fits unread a k → Ends why k due a b → EndsSound o b d
+    ends : (why : TurnFault) (k : Cause) (due : CoreState → List Answer → Kept) → Fits unread a k → Ends why k due a b → EndsSound o b d
     ends StampsSpent k due F h = ends_still o unread a d S b (ap (λ (l : Looping). l.log) h.1)
         (subst (λ (x : Looping). IsAsBefore a.core x.core) (sym h.1) (as_it_is a.core))
     ends Memory k due F h = elim h.1 [
@@ -152,14 +152,14 @@ module _ (o : Opening) (d : Dealt) where
   still a b (Ok u) S h = subst (λ (x : Looping). IsSound o x d) (sym h.1) S
   still a b (Err why) S h = absurd (one_outcome (Err why) why refl h.0)
 
-  asks : (a b : Looping) → IsSound o a d → a.left ≡ false → (ticket : Option Ticket) (e : Event) → knows_contact a.world e ≡ true
+  asks : (a b : Looping) → IsSound o a d → a.left ≡ false → (ticket : Option Ticket) (e : LocalEvent) → knows_contact a.world e ≡ true
       → leaves_by e ≡ false → (r : Outcome) → Asks ticket e a r b → Comes r b
   asks a b S run ticket e known stays r (inl g) =
       goes (λ f. []) a b S run (by_event ticket e a)
       (by_own a S ticket e (ap (λ (w : List ℕ). knows_contact w e) (sym S.world) ∙ known)) (stays_by a.core.name e stays) r g
   asks a b S run ticket e known stays r (inr x) = refuses a b S ticket _ r x.3
 
-  accepts : (a b : Looping) → IsSound o a d → (ticket : Option Ticket) (e : Event) (r : Outcome) → Accepts ticket e a r b → Comes r b
+  accepts : (a b : Looping) → IsSound o a d → (ticket : Option Ticket) (e : LocalEvent) (r : Outcome) → Accepts ticket e a r b → Comes r b
   accepts a b S ticket e r h = at_contact (knows_contact a.world e) refl h
     where
       at_leave : (leaves : Bool) → leaves_by e ≡ leaves → knows_contact a.world e ≡ true → a.left ≡ false

@@ -14,12 +14,12 @@ use Rattle.node_log.specs.NodeEventsLetters.{send_of}
 use Rattle.node_log.specs.NodeEvents.TheVariants.{FromPeer}
 use Rattle.link.specs.declared.faults.LinkFault.{LinkFault}
 use Rattle.node_log.specs.declared.Answer.{Answer}
-use Rattle.node_log.specs.declared.Event.{Event}
-use Rattle.node_log.specs.declared.Event.TheVariants.{Call, Retry, Exit, Leave}
+use Rattle.node_log.specs.declared.LocalEvent.{LocalEvent}
+use Rattle.node_log.specs.declared.LocalEvent.TheVariants.{Call, Retry, Exit, Leave}
 use Rattle.node_log.specs.declared.WorldEvent.TheVariants.{At, Deliver}
 use Rattle.node_log.specs.Events.{event_of, node_event, knows_contact, is_leave as leaves_by}
 use Rattle.node_log.specs.NodeEventsSeen.{answer_of}
-use Rattle.node_log.specs.NodeCoreHeld.{Held}
+use Rattle.node_log.specs.NodeCoreState.{CoreState}
 use Rattle.node_log.specs.NodeCoreMade.{Made as Turn}
 use Rattle.node_log.specs.NodeCoreSeen.{node_of}
 use Rattle.node_log.specs.NodeCoreSteps.{Steps, IsAsBefore, IsSaidBy}
@@ -43,7 +43,7 @@ use Rattle.node_loop.proofs.DoingFrom.{sends_of, made_from, heard_own, other_amo
 use Rattle.node_loop.proofs.StandingFrom.{besides, ends_still, ends_more, stands_more, sent_off, taken}
 
 -- the node is as it was
-as_it_is : (h : Held) → IsAsBefore h h
+as_it_is : (h : CoreState) → IsAsBefore h h
 as_it_is h = record { name = refl; world = refl; node = refl }
 
 left_both : (x y : Bool) → (x && y) ≡ true → x ≡ true
@@ -61,7 +61,7 @@ due_runs a e = not_false a.left (left_both (not a.left) (can_retry (node_of a.co
 free_runs : (a : Looping) → is_free_to_leave a ≡ true → a.left ≡ false
 free_runs a e = not_false a.left (left_both (not a.left) _ (left_both (has_leave a) _ e))
 
-stays_by : (n : ℕ) (e : Event) → leaves_by e ≡ false → is_leave (event_of (At n e)) ≡ false
+stays_by : (n : ℕ) (e : LocalEvent) → leaves_by e ≡ false → is_leave (event_of (At n e)) ≡ false
 stays_by n (Call c) h = refl
 stays_by n Retry h = refl
 stays_by n (Exit p) h = refl
@@ -76,16 +76,16 @@ module _ (o : Opening) (start : Start) (d : Dealt) where
   record Fits (unread : ℕ → List StampedLetter) (a : Looping) (k : Cause) : Type 0 where
     own : place (event_of k.logged) ≡ a.core.name
     known : in_world o (other (event_of k.logged)) ≡ true
-    does : (core : Held) (turn : Turn) → Steps k.event a.core core turn
+    does : (core : CoreState) (turn : Turn) → Steps k.event a.core core turn
         → Does o unread (node_of a.core) (made_from o a.core k.event core turn (seen_entry (entry_of k a turn.answers))) (event_of k.logged)
-    same : (core : Held) (turn : Turn) → Steps k.event a.core core turn → (t : ℕ) → set_of a.core.world t ≡ true
+    same : (core : CoreState) (turn : Turn) → Steps k.event a.core core turn → (t : ℕ) → set_of a.core.world t ≡ true
         → sent_to t (sends_of o a.core k.event turn) ≡ sent_to t (map send_of turn.letters)
-    none : (core : Held) (turn : Turn) → Steps k.event a.core core turn → is_leave (event_of k.logged) ≡ false → (t : ℕ)
+    none : (core : CoreState) (turn : Turn) → Steps k.event a.core core turn → is_leave (event_of k.logged) ≡ false → (t : ℕ)
         → with_older a.core.world t ≡ false → sent_to t (sends_of o a.core k.event turn) ≡ []
     read : unread_after (event_of k.logged) unread ≡ (λ f. [])
 
   -- to a node that hasn't started an event of its own sends nothing, unless it is a leave
-  own_none : (h core : Held) (turn : Turn) (I : IsNodeAmong o h) (e : Event) (t : ℕ) → Steps (node_event e) h core turn
+  own_none : (h core : CoreState) (turn : Turn) (I : IsNodeAmong o h) (e : LocalEvent) (t : ℕ) → Steps (node_event e) h core turn
       → knows_contact h.world e ≡ true → is_leave (event_of (At h.name e)) ≡ false → with_older h.world t ≡ false → sent_to t (sends_of o h (node_event e) turn) ≡ []
   own_none h core turn I (Call c) t step known stays out =
       sent_none o h I core turn t (node_event (Call c)) refl step (heard_own h (Call c) known) out
@@ -94,7 +94,7 @@ module _ (o : Opening) (start : Start) (d : Dealt) where
   own_none h core turn I Leave t step known stays out = cc stays
 
   -- an event of its own
-  by_own : (a : Looping) (S : IsSoundFrom o start a d) (own : Option Ticket) (e : Event) → knows_contact a.core.world e ≡ true
+  by_own : (a : Looping) (S : IsSoundFrom o start a d) (own : Option Ticket) (e : LocalEvent) → knows_contact a.core.world e ≡ true
       → Fits (λ f. []) a (by_event own e a)
   by_own a S own e known = record {
     own = refl;
@@ -142,7 +142,7 @@ module _ (o : Opening) (start : Start) (d : Dealt) where
         (ap (λ (l : Looping). l.tray) is ∙ M.tray) (ap (λ (l : Looping). l.world) is ∙ M.world) stays)
 
     -- or the thread ends within it
-    ends : (why : TurnFault) (k : Cause) (due : Held → List Answer → Kept) → Fits unread a k → Ends why k due a b → EndsSoundFrom o start b d
+    ends : (why : TurnFault) (k : Cause) (due : CoreState → List Answer → Kept) → Fits unread a k → Ends why k due a b → EndsSoundFrom o start b d
     ends StampsSpent k due F h = ends_still o start unread a d S b (ap (λ (l : Looping). l.log) h.1)
         (subst (λ (x : Looping). IsAsBefore a.core x.core) (sym h.1) (as_it_is a.core))
     ends Memory k due F h = elim h.1 [
@@ -179,14 +179,14 @@ module _ (o : Opening) (start : Start) (d : Dealt) where
   still a b (Ok u) S h = subst (λ (x : Looping). IsSoundFrom o start x d) (sym h.1) S
   still a b (Err why) S h = absurd (one_outcome (Err why) why refl h.0)
 
-  asks : (a b : Looping) → IsSoundFrom o start a d → a.left ≡ false → (ticket : Option Ticket) (e : Event) → knows_contact a.world e ≡ true
+  asks : (a b : Looping) → IsSoundFrom o start a d → a.left ≡ false → (ticket : Option Ticket) (e : LocalEvent) → knows_contact a.world e ≡ true
       → leaves_by e ≡ false → (r : Outcome) → Asks ticket e a r b → Comes r b
   asks a b S run ticket e known stays r (inl g) =
       goes (λ f. []) a b S run (by_event ticket e a)
       (by_own a S ticket e (ap (λ (w : List ℕ). knows_contact w e) (sym S.world) ∙ known)) (stays_by a.core.name e stays) r g
   asks a b S run ticket e known stays r (inr x) = refuses a b S ticket _ r x.3
 
-  accepts : (a b : Looping) → IsSoundFrom o start a d → (ticket : Option Ticket) (e : Event) (r : Outcome) → Accepts ticket e a r b → Comes r b
+  accepts : (a b : Looping) → IsSoundFrom o start a d → (ticket : Option Ticket) (e : LocalEvent) (r : Outcome) → Accepts ticket e a r b → Comes r b
   accepts a b S ticket e r h = at_contact (knows_contact a.world e) refl h
     where
       at_leave : (leaves : Bool) → leaves_by e ≡ leaves → knows_contact a.world e ≡ true → a.left ≡ false
@@ -231,7 +231,7 @@ module _ (o : Opening) (start : Start) (d : Dealt) where
   }
 
   -- what a core takes from this node: it has started, and may say that
-  abbrev IsTakenBy : Held → ℕ → Item → Type 0
+  abbrev IsTakenBy : CoreState → ℕ → Item → Type 0
   IsTakenBy h from i = (with_older h.world from ≡ true) × IsHeardOf h.world h.name from i
 
   handles : (a b : Looping) (from : ℕ) (i : Item) → IsTakenBy a.core from i → StandsFrom o start (letters_from from i) a d → (r : Outcome)
@@ -327,13 +327,13 @@ module _ (o : Opening) (start : Start) (d : Dealt) where
       hears i (letters_from from i) (record a { worked = true }) h.hearing
       (besides o start (letters_from from i) a d S a.desk a.wait true a.owed) h.hears in
       behind (Handles from i) (behind_item i) h.hearing r b (λ went m k. handles h.hearing m from i
-      (subst (λ (c : Held). IsTakenBy c from i) (sym (hears_core i (record a { worked = true }) h.hearing h.hears)) known)
+      (subst (λ (c : CoreState). IsTakenBy c from i) (sym (hears_core i (record a { worked = true }) h.hearing h.hears)) known)
       heard went k)
       (λ m k l. behind_it i m b k r l) h.handles
 
 module _ {S : Type 0} (posts : S → ℕ → Item → S → Type 0) (refused : S → ℕ → Item → LinkFault → Type 0) (takes : S → ℕ → Item → S → Type 0) (misses : S → Type 0) (held : ℕ → Type 0) where
   -- links of a node that knows some nodes of a world lead inside that
-  as_deals : (o : Opening) (h : Held) → IsNodeAmong o h → (inside : S → Bool) (dealt : S → Dealt)
+  as_deals : (o : Opening) (h : CoreState) → IsNodeAmong o h → (inside : S → Bool) (dealt : S → Dealt)
       → DealsAmong posts takes h.world h.name inside dealt → Deals posts takes o inside dealt
   as_deals o h I inside dealt D = record {
     sends = D.sends;

@@ -7,9 +7,9 @@ use Rattle.std.proofs.lemmas.List.Folds.{list_any-append, list_any_at}
 use Rattle.registry_model.specs.Process.{Process}
 use Rattle.protocol_model.specs.Event.{Answer as AnyAnswer}
 use Rattle.node_log.specs.declared.Answer.{Answer}
-use Rattle.node_log.specs.Entries.{Entry}
+use Rattle.node_log.specs.Entries.{SeatedEntry}
 use Rattle.node_log.specs.NodeEventsSeen.{answer_of}
-use Rattle.node_log.specs.NodeCoreHeld.{Held}
+use Rattle.node_log.specs.NodeCoreState.{CoreState}
 use Rattle.node_loop.specs.declared.item.Ticket.{Ticket}
 use Rattle.node_loop.specs.declared.replies.TaskFault.{TaskFault}
 use Rattle.node_loop.specs.declared.waiting.Caller.{Caller}
@@ -63,7 +63,7 @@ silent_each f silent (x ∷ xs) =
     list_any-append tells_left (f x) (flat_map f xs)
     ∙ or_from (some_left (f x)) (some_left (flat_map f xs)) (silent x) (silent_each f silent xs)
 
-silent_drop : (h : Held) (c : Caller) → some_left (drop_told h c) ≡ false
+silent_drop : (h : CoreState) (c : Caller) → some_left (drop_told h c) ≡ false
 silent_drop h c = go (is_dropped h c) c.holder
   where
     go : (dropped : Bool) (holder : Option Process) → some_left (if dropped then dead_told holder c.ticket else []) ≡ false
@@ -86,7 +86,7 @@ behind_answers stamp own (a ∷ rest) k t =
     (behind_answers stamp own rest (answered stamp own a k) t)
 
 -- nor does what is told of a step
-behind_step : (stamp : ℕ) (course : Course) (own : Option Ticket) (h : Held) (answers : List Answer) (k : Kept)
+behind_step : (stamp : ℕ) (course : Course) (own : Option Ticket) (h : CoreState) (answers : List Answer) (k : Kept)
     → some_left (settled stamp course own h answers k).replies ≡ true → some_left k.replies ≡ true
 behind_step stamp course own h answers k t =
     before k.replies (acceptance course own) (silent_acceptance course own)
@@ -97,17 +97,17 @@ behind_step stamp course own h answers k t =
     told = all_answered stamp own (map answer_of answers) (awaiting course h.last_call own k)
 
 -- a leave stays in a log that gets an entry more
-stays : (a b : Written) (e : Entry) → b ≡ record a { entries = a.entries ++ e ∷ [] } → logs_leave a ≡ true → logs_leave b ≡ true
+stays : (a b : Written) (e : SeatedEntry) → b ≡ record a { entries = a.entries ++ e ∷ [] } → logs_leave a ≡ true → logs_leave b ≡ true
 stays a b e is t =
     ap (λ (l : Written). logs_leave l) is
-    ∙ (list_any-append (λ (x : Entry). is_leave_of a.node x.event) a.entries (e ∷ []) ∙ or_left (logs_leave a) _ t)
+    ∙ (list_any-append (λ (x : SeatedEntry). is_leave_of a.node x.event) a.entries (e ∷ []) ∙ or_left (logs_leave a) _ t)
 
 -- it stands there where the entry is one
-stands : (a b : Written) (e : Entry) → b ≡ record a { entries = a.entries ++ e ∷ [] } → is_leave_of a.node e.event ≡ true
+stands : (a b : Written) (e : SeatedEntry) → b ≡ record a { entries = a.entries ++ e ∷ [] } → is_leave_of a.node e.event ≡ true
     → logs_leave b ≡ true
 stands a b e is t =
     ap (λ (l : Written). logs_leave l) is
-    ∙ (list_any-append (λ (x : Entry). is_leave_of a.node x.event) a.entries (e ∷ [])
+    ∙ (list_any-append (λ (x : SeatedEntry). is_leave_of a.node x.event) a.entries (e ∷ [])
     ∙ or_right (logs_leave a) _ (or_left (is_leave_of a.node e.event) false t))
 
 -- the log is the node's own, and has its leave where a reply says that it has left

@@ -3,8 +3,8 @@ use Rattle.std.proofs.Common.{◌≡◌, ℕ, Bool, true, false, Option, None, O
 use Rattle.std.specs.Prelude.{MatchBool, MatchResult, ◌-◌, ◌⊎◌}
 use Rattle.link.specs.declared.faults.LinkFault.{LinkFault}
 use Rattle.tray.specs.Held.{Waiting}
-use Rattle.node_log.specs.declared.Event.{Event}
-use Rattle.node_log.specs.declared.Event.TheVariants.{Retry}
+use Rattle.node_log.specs.declared.LocalEvent.{LocalEvent}
+use Rattle.node_log.specs.declared.LocalEvent.TheVariants.{Retry}
 use Rattle.node_log.specs.Events.{is_leave as leaves_by, knows_contact}
 use Rattle.node_loop.specs.declared.item.Item.{Item}
 use Rattle.node_loop.specs.declared.item.Item.TheVariants as item
@@ -53,11 +53,11 @@ module _ (P : Looping → Type 0) (K : IsKept P) where
   waits a b h ticket (Ok u) e = subst P (sym e) (K.waits a ticket h)
   waits a b h ticket (Err why) e = same a b e.1 h
 
-  asks : (a b : Looping) → P a → (ticket : Option Ticket) (e : Event) (r : Outcome) → Asks ticket e a r b → P b
+  asks : (a b : Looping) → P a → (ticket : Option Ticket) (e : LocalEvent) (r : Outcome) → Asks ticket e a r b → P b
   asks a b h ticket e r (inl g) = goes (by_event ticket e a) a b h r g
   asks a b h ticket e r (inr x) = refuses a b h ticket _ r x.3
 
-  accepts : (a b : Looping) → P a → (ticket : Option Ticket) (e : Event) (r : Outcome) → Accepts ticket e a r b → P b
+  accepts : (a b : Looping) → P a → (ticket : Option Ticket) (e : LocalEvent) (r : Outcome) → Accepts ticket e a r b → P b
   accepts a b h ticket e r x = at_contact (knows_contact a.world e) x
     where
       at_leave : (leaves : Bool) → MatchBool leaves (WaitsToLeave ticket a r b) (Asks ticket e a r b) → P b

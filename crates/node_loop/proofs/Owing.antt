@@ -14,18 +14,18 @@ use Rattle.name_table.specs.declared.change.Pair.{Pair}
 use Rattle.name_table.specs.Changes.{change_of}
 use Rattle.term.specs.NodeSets.{set_of, with_older}
 use Rattle.term.proofs.Older.{held}
-use Rattle.node_log.specs.declared.Event.{Event}
-use Rattle.node_log.specs.declared.Event.TheVariants as event
+use Rattle.node_log.specs.declared.LocalEvent.{LocalEvent}
+use Rattle.node_log.specs.declared.LocalEvent.TheVariants as event
 use Rattle.node_log.specs.declared.Answer.{Answer}
 use Rattle.node_log.specs.NodeEvents.TheVariants.{FromPeer}
 use Rattle.node_log.specs.declared.Letter.{Letter}
 use Rattle.node_log.specs.declared.Letter.TheVariants.{SetLock, LockAnswer, GiveBack, GivenBack, ReleaseOf, Apply, Applied, JoinAsk, JoinRefused, Admit, Welcome, Down}
-use Rattle.node_log.specs.NodeCoreHeld.{Held, bound_of}
+use Rattle.node_log.specs.NodeCoreState.{CoreState, bound_of}
 use Rattle.node_log.specs.NodeCoreMade.{Made as Turn}
 use Rattle.node_log.specs.NodeCoreSeen.{node_of}
 use Rattle.node_log.specs.NodeCoreSteps.{Steps, IsSaidBy}
 use Rattle.node_log.specs.NodeEventsLetters.{letter_of}
-use Rattle.node_log.specs.Entries.{Entry}
+use Rattle.node_log.specs.Entries.{SeatedEntry}
 use Rattle.node_log.specs.Events.{node_event, own_event_of, knows_contact}
 use Rattle.node_loop.specs.declared.edit.Edit.TheVariants as edit
 use Rattle.node_loop.specs.declared.edit.Edition.{Edition}
@@ -106,13 +106,13 @@ noted note a b N e O = record {
     within = omega (arith, ap (λ (o : Owed). o.length) N.owed, length_within a.owed note (length a.log.entries + 1) less, N.entries)
 
 -- one entry more was put into a log
-pub one_more : (n : ℕ) (before mid after : List Entry) (e : Entry) → n ≡ length after → after ≡ mid ++ e ∷ [] → mid ≡ before
+pub one_more : (n : ℕ) (before mid after : List SeatedEntry) (e : SeatedEntry) → n ≡ length after → after ≡ mid ++ e ∷ [] → mid ≡ before
     → n ≡ length before + 1
 one_more n before mid after e at more same =
-    at ∙ (ap (λ (l : List Entry). length l) more ∙ (length-append mid (e ∷ []) ∙ ap (λ (l : List Entry). length l + 1) same))
+    at ∙ (ap (λ (l : List SeatedEntry). length l) more ∙ (length-append mid (e ∷ []) ∙ ap (λ (l : List SeatedEntry). length l + 1) same))
 
 -- Behind a step the table is that of the protocol's
-module _ (h k : Held) (made : Turn) where
+module _ (h k : CoreState) (made : Turn) where
   pub behind_letter_read : (f : ℕ) (l : Letter) → Steps (FromPeer f l) h k made → IsSaidBy h.world h.name f l
       → k.table ≡ (behind h.name f (letter_of l) (node_of h)).table
   behind_letter_read f l step said =
@@ -120,7 +120,7 @@ module _ (h k : Held) (made : Turn) where
       ∙ ap (λ (v : Replica). v.table) (letters_write (bound_of h.world) h.name (λ _. 0) f (letter_of l) (node_of h))
 
   -- no event of its own changes it
-  pub behind_event : (e : Event) → knows_contact h.world e ≡ true → Steps (node_event e) h k made → k.table ≡ h.table
+  pub behind_event : (e : LocalEvent) → knows_contact h.world e ≡ true → Steps (node_event e) h k made → k.table ≡ h.table
   behind_event e known step =
       ap (λ (u : AnyTurn). u.node.replica.table) (own_turn h k made e step known)
       ∙ ap (λ (v : Replica). v.table) (events_keep (bound_of h.world) h.name (set_of h.world) (own_event_of e) (node_of h))
@@ -132,14 +132,14 @@ entry_more k a b answers log =
     ap (λ (l : Written). length l.entries) log ∙ length-append a.log.entries (entry_of k a answers ∷ [])
 
 -- nothing is noted for it
-notes_nothing : (e : Event) (h : Held) → Notes (node_event e) Nothing h
+notes_nothing : (e : LocalEvent) (h : CoreState) → Notes (node_event e) Nothing h
 notes_nothing (event.Call c) h = refl
 notes_nothing event.Retry h = refl
 notes_nothing (event.Exit p) h = refl
 notes_nothing event.Leave h = inl refl
 
 -- a step by an event of its own leaves what it shows
-pub owing_by_event : (ticket : Option Ticket) (e : Event) (a b : Looping) (turn : Turn) → knows_contact a.world e ≡ true
+pub owing_by_event : (ticket : Option Ticket) (e : LocalEvent) (a b : Looping) (turn : Turn) → knows_contact a.world e ≡ true
     → Steps (node_event e) a.core b.core turn
     → b.log ≡ record a.log { entries = a.log.entries ++ entry_of (by_event ticket e a) a turn.answers ∷ [] }
     → b.world ≡ a.world → b.left ≡ a.left → b.owed ≡ a.owed → IsNoted (by_event ticket e a) a b × KeepsOwing a b
@@ -211,7 +211,7 @@ owing_by_leave a m b M owed is = (
     log = ap (λ (l : Looping). l.log) is ∙ M.log
 
 -- a letter that leaves the table, or whose writing is known
-module _ (f : ℕ) (h : Held) where
+module _ (f : ℕ) (h : CoreState) where
   -- it is another node of the world
   abbrev known : Bool
   known = set_of h.world f && not (f == h.name)

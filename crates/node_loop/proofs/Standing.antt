@@ -13,11 +13,11 @@ use Rattle.closings.specs.Guarded.{DoesIfFit}
 use Rattle.closings.proofs.Growing.{plays_longer, unread_behind_longer, plays_more, node_on, unread_on, sent_on, below_from, below_on, staying_on}
 use Rattle.term.specs.Nodes.{IsFirst}
 use Rattle.term.specs.NodeSets.{set_of}
-use Rattle.node_log.specs.NodeCoreHeld.{Held, bound_of}
+use Rattle.node_log.specs.NodeCoreState.{CoreState, bound_of}
 use Rattle.node_log.specs.NodeCoreMade.{Made as Turn}
 use Rattle.node_log.specs.NodeCoreSeen.{node_of}
 use Rattle.node_log.specs.NodeCoreSteps.{Steps, IsAsBefore}
-use Rattle.node_log.specs.Entries.{Entry}
+use Rattle.node_log.specs.Entries.{SeatedEntry}
 use Rattle.node_log.specs.Events.{event_of}
 use Rattle.node_log.specs.Seen.{seen_entry}
 use Rattle.tray.specs.Held.{Waiting}
@@ -34,7 +34,7 @@ use Rattle.node_loop.proofs.Doing.{made, here}
 use Rattle.node_loop.proofs.Trays.{receivers_with, letters_with}
 
 -- it is a node of the world still, where it has the same name and the same world
-of_same : (o : Opening) (h k : Held) → IsNodeOf o h → k.name ≡ h.name → k.world ≡ h.world → IsNodeOf o k
+of_same : (o : Opening) (h k : CoreState) → IsNodeOf o h → k.name ≡ h.name → k.world ≡ h.world → IsNodeOf o k
 of_same o h k I n w = record {
   bound = I.bound ∙ ap bound_of (sym w);
   inside = I.inside ∙ ap set_of (sym w);
@@ -49,7 +49,7 @@ played_by : (o : Opening) (m n : ℕ) (letters : ℕ → List StampedLetter) (ds
 played_by o m n letters ds e h =
     subst (λ (x : ℕ). Plays (DoesIfFit (IsSaid (in_world o))) o x letters (opening_node (in_cluster o) x) ds) (sym e) h
 
-pub logged_more : (course : List Made) (es fs : List Entry) (m : Made) (e : Entry) → map (λ x. x.entry) course ≡ map seen_entry es
+pub logged_more : (course : List Made) (es fs : List SeatedEntry) (m : Made) (e : SeatedEntry) → map (λ x. x.entry) course ≡ map seen_entry es
     → m.entry ≡ seen_entry e → fs ≡ es ++ e ∷ [] → map (λ x. x.entry) (course ++ m ∷ []) ≡ map seen_entry fs
 logged_more course es fs m e same one more =
     map-append (λ (x : Made). x.entry) course (m ∷ [])
@@ -118,7 +118,7 @@ module _ (o : Opening) (unread : ℕ → List StampedLetter) (a : Looping) (d : 
   }
 
   -- a step more
-  module _ (run : a.left ≡ false) (k : Cause) (core : Held) (turn : Turn) (step : Steps k.event a.core core turn)
+  module _ (run : a.left ≡ false) (k : Cause) (core : CoreState) (turn : Turn) (step : Steps k.event a.core core turn)
       (own : place (event_of k.logged) ≡ a.core.name) (known : in_world o (other (event_of k.logged)) ≡ true)
       (does : DoesIfFit (IsSaid (in_world o)) o unread (node_of a.core) (made core turn (seen_entry (entry_of k a turn.answers))) (event_of k.logged)) where
     abbrev m : Made
@@ -146,9 +146,9 @@ module _ (o : Opening) (unread : ℕ → List StampedLetter) (a : Looping) (d : 
     pub ends_more : (b : Looping) → b.core ≡ core → b.log ≡ record a.log { entries = a.log.entries ++ entry_of k a turn.answers ∷ [] }
         → EndsSound o b d
     ends_more b same log =
-        let name : b.core.name ≡ a.core.name = ap (λ (h : Held). h.name) same ∙ step.name in
+        let name : b.core.name ≡ a.core.name = ap (λ (h : CoreState). h.name) same ∙ step.name in
         record {
-          of = of_same o a.core b.core S.of name (ap (λ (h : Held). h.world) same ∙ step.world);
+          of = of_same o a.core b.core S.of name (ap (λ (h : CoreState). h.world) same ∙ step.world);
           named = ap (λ (l : Written). l.node) log ∙ (S.named ∙ sym name);
           course = S.course ++ m ∷ [];
           logged = logged_more S.course a.log.entries b.log.entries m (entry_of k a turn.answers) S.logged refl
@@ -167,8 +167,8 @@ module _ (o : Opening) (unread : ℕ → List StampedLetter) (a : Looping) (d : 
         → b.stamp ≡ stamp_of k a → b.tray ≡ with_letters (stamp_of k a) turn.letters a.tray → b.world ≡ a.world
         → (b.left ≡ false → is_leave (event_of k.logged) ≡ false) → Stands o (unread_after (event_of k.logged) unread) b d
     stands_more b same log stamp tray world stays =
-        let name : b.core.name ≡ a.core.name = ap (λ (h : Held). h.name) same ∙ step.name in
-        let where_ : b.core.world ≡ a.core.world = ap (λ (h : Held). h.world) same ∙ step.world in
+        let name : b.core.name ≡ a.core.name = ap (λ (h : CoreState). h.name) same ∙ step.name in
+        let where_ : b.core.world ≡ a.core.world = ap (λ (h : CoreState). h.world) same ∙ step.world in
         record {
           of = of_same o a.core b.core S.of name where_;
           named = ap (λ (l : Written). l.node) log ∙ (S.named ∙ sym name);

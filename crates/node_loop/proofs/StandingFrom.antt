@@ -13,7 +13,7 @@ use Rattle.closings.proofs.Plainly.{plays_longer, unread_behind_longer, starts_o
 use Rattle.term.specs.NodeSets.{set_of, with_older}
 use Rattle.term.proofs.Older.{held}
 use Rattle.node_log.specs.NodeEventsLetters.{send_of}
-use Rattle.node_log.specs.NodeCoreHeld.{Held, bound_of}
+use Rattle.node_log.specs.NodeCoreState.{CoreState, bound_of}
 use Rattle.node_log.specs.NodeCoreMade.{Made as Turn}
 use Rattle.node_log.specs.NodeCoreSeen.{node_of}
 use Rattle.node_log.specs.NodeCoreSteps.{Steps, IsAsBefore}
@@ -33,7 +33,7 @@ use Rattle.node_loop.proofs.Standing.{logged_more}
 use Rattle.node_loop.proofs.Trays.{receivers_with, letters_with}
 
 -- it is a node of the world still, where it has the same name and the same world
-among_same : (o : Opening) (h k : Held) → IsNodeAmong o h → k.name ≡ h.name → k.world ≡ h.world → IsNodeAmong o k
+among_same : (o : Opening) (h k : CoreState) → IsNodeAmong o h → k.name ≡ h.name → k.world ≡ h.world → IsNodeAmong o k
 among_same o h k I n w = record {
   bound = I.bound ∙ ap bound_of (sym w);
   inside = λ c e. I.inside c (ap (λ (x : List ℕ). with_older x c) (sym w) ∙ e);
@@ -142,7 +142,7 @@ module _ (o : Opening) (start : Start) (unread : ℕ → List StampedLetter) (a 
           not_in t out false e = refl
 
   -- a step more, that sends to whom the node knows to be at present what its core does, and to whom it doesn't know nothing, unless it leaves
-  module _ (run : a.left ≡ false) (k : Cause) (core : Held) (turn : Turn) (step : Steps k.event a.core core turn)
+  module _ (run : a.left ≡ false) (k : Cause) (core : CoreState) (turn : Turn) (step : Steps k.event a.core core turn)
       (own : place (event_of k.logged) ≡ a.core.name) (known : in_world o (other (event_of k.logged)) ≡ true)
       (does : Does o unread (node_of a.core) (made_from o a.core k.event core turn (seen_entry (entry_of k a turn.answers))) (event_of k.logged))
       (same : (t : ℕ) → set_of a.core.world t ≡ true → sent_to t (sends_of o a.core k.event turn) ≡ sent_to t (map send_of turn.letters))
@@ -175,9 +175,9 @@ module _ (o : Opening) (start : Start) (unread : ℕ → List StampedLetter) (a 
     pub ends_more : (b : Looping) → b.core ≡ core → b.log ≡ record a.log { entries = a.log.entries ++ entry_of k a turn.answers ∷ [] }
         → EndsSoundFrom o start b d
     ends_more b is log =
-        let name : b.core.name ≡ a.core.name = ap (λ (h : Held). h.name) is ∙ step.name in
+        let name : b.core.name ≡ a.core.name = ap (λ (h : CoreState). h.name) is ∙ step.name in
         record {
-          of = among_same o a.core b.core S.of name (ap (λ (h : Held). h.world) is ∙ step.world);
+          of = among_same o a.core b.core S.of name (ap (λ (h : CoreState). h.world) is ∙ step.world);
           named = ap (λ (l : Written). l.node) log ∙ (S.named ∙ sym name);
           course = S.course ++ m ∷ [];
           logged = logged_more S.course a.log.entries b.log.entries m (entry_of k a turn.answers) S.logged refl
@@ -197,8 +197,8 @@ module _ (o : Opening) (start : Start) (unread : ℕ → List StampedLetter) (a 
         → b.stamp ≡ stamp_of k a → b.tray ≡ with_letters (stamp_of k a) turn.letters a.tray → b.world ≡ a.world
         → (b.left ≡ false → is_leave (event_of k.logged) ≡ false) → StandsFrom o start (unread_after (event_of k.logged) unread) b d
     stands_more b is log stamp tray world stays =
-        let name : b.core.name ≡ a.core.name = ap (λ (h : Held). h.name) is ∙ step.name in
-        let where_ : b.core.world ≡ a.core.world = ap (λ (h : Held). h.world) is ∙ step.world in
+        let name : b.core.name ≡ a.core.name = ap (λ (h : CoreState). h.name) is ∙ step.name in
+        let where_ : b.core.world ≡ a.core.world = ap (λ (h : CoreState). h.world) is ∙ step.world in
         record {
           of = among_same o a.core b.core S.of name where_;
           named = ap (λ (l : Written). l.node) log ∙ (S.named ∙ sym name);

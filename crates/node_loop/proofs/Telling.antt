@@ -3,7 +3,7 @@ use Rattle.std.proofs.Common.{◌≡◌, ℕ, Option, Result, Ok, Err, OnErr, Li
 use Rattle.protocol_model.specs.Event.{Answer as AnyAnswer}
 use Rattle.node_log.specs.declared.Answer.{Answer}
 use Rattle.node_log.specs.NodeEventsSeen.{answer_of}
-use Rattle.node_log.specs.NodeCoreHeld.{Held}
+use Rattle.node_log.specs.NodeCoreState.{CoreState}
 use Rattle.node_loop.specs.declared.item.Ticket.{Ticket}
 use Rattle.node_loop.specs.declared.waiting.Course.{Course}
 use Rattle.node_loop.specs.Told.{Told}
@@ -23,16 +23,16 @@ grows stamp own [] k = begins_all k.replies
 grows stamp own (a ∷ rest) k = begins_on _ _ _ (begins_front k.replies _) (grows stamp own rest (answered stamp own a k))
 
 -- behind the answers only dropped calls are told of
-pub sweep_begins : (h : Held) (k : Kept) → Begins k.replies (swept h k).replies
+pub sweep_begins : (h : CoreState) (k : Kept) → Begins k.replies (swept h k).replies
 sweep_begins h k = begins_front k.replies _
 
-pub awaiting_begins : (stamp : ℕ) (course : Course) (own : Option Ticket) (h : Held) (answers : List Answer) (k : Kept)
+pub awaiting_begins : (stamp : ℕ) (course : Course) (own : Option Ticket) (h : CoreState) (answers : List Answer) (k : Kept)
     → Begins (awaiting course h.last_call own k).replies (settled stamp course own h answers k).replies
 awaiting_begins stamp course own h answers k =
     begins_on _ _ _ (grows stamp own (map answer_of answers) (awaiting course h.last_call own k))
     (sweep_begins h (all_answered stamp own (map answer_of answers) (awaiting course h.last_call own k)))
 
-pub settled_begins : (stamp : ℕ) (course : Course) (own : Option Ticket) (h : Held) (answers : List Answer) (k : Kept)
+pub settled_begins : (stamp : ℕ) (course : Course) (own : Option Ticket) (h : CoreState) (answers : List Answer) (k : Kept)
     → Begins k.replies (settled stamp course own h answers k).replies
 settled_begins stamp course own h answers k =
     begins_on _ _ _ (begins_front k.replies _) (awaiting_begins stamp course own h answers k)
@@ -45,7 +45,7 @@ pub begins_as : (old new whole all : List Told) → new ≡ old → whole ≡ al
 begins_as old new whole all e f h = subst (λ (x : List Told × List Told). Begins x.0 x.1) (λ j. (sym e j, f j)) h
 
 -- the answers are told, to those who wait then
-pub answering_begins : (stamp : ℕ) (course : Course) (own : Option Ticket) (h : Held) (answers : List Answer) (k mid : Kept) (n : ℕ) (new : List Told)
+pub answering_begins : (stamp : ℕ) (course : Course) (own : Option Ticket) (h : CoreState) (answers : List Answer) (k mid : Kept) (n : ℕ) (new : List Told)
     → mid ≡ awaiting course n own k → n ≡ h.last_call → Begins new (all_answered stamp own (map answer_of answers) mid).replies
     → Begins new (settled stamp course own h answers k).replies
 answering_begins stamp course own h answers k mid n new e f told =

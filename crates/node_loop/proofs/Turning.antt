@@ -1,7 +1,7 @@
 -- What is tried where no item is found, and which leave.
 use Rattle.std.proofs.Common.{◌≡◌, ◌==◌, ◌&&◌, ◌-◌, ℕ, Bool, true, false, Option, Some, None, List, [], ◌∷◌, refl, sym, ap, subst, ◌∙◌}
 use Rattle.std.specs.Option.{option_flatten}
-use Rattle.node_log.specs.declared.Event.TheVariants.{Retry}
+use Rattle.node_log.specs.declared.LocalEvent.TheVariants.{Retry}
 use Rattle.node_loop.specs.declared.item.Ticket.{Ticket}
 use Rattle.node_loop.specs.Desks.{first_leave}
 use Rattle.node_loop.specs.Held.{Looping, has_retry, is_due}

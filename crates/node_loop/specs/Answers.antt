@@ -1,9 +1,9 @@
 -- Where who asked is told an answer, the node's log has it, in the step whose stamp is told with it.
 use Rattle.std.specs.Prelude.{ℕ, ◌≡◌, Contains, map, Ok}
 use Rattle.protocol_model.specs.Event.{Answer as AnyAnswer}
-use Rattle.node_log.specs.Entries.{Entry}
+use Rattle.node_log.specs.Entries.{SeatedEntry}
 use Rattle.node_log.specs.NodeEventsSeen.{answer_of}
-use Rattle.node_log.specs.NodeCoreHeld.{Held}
+use Rattle.node_log.specs.NodeCoreState.{CoreState}
 use Rattle.node_loop.specs.declared.item.Ticket.{Ticket}
 use Rattle.node_loop.specs.Told.{Told, Answered}
 use Rattle.node_loop.specs.Held.{Looping, Written}
@@ -11,7 +11,7 @@ use Rattle.node_loop.specs.Coming.{IsLoopOf, IsLoopFrom}
 
 -- some step of the log has this stamp, and gives this answer
 pub record LogsAnswer (log : Written) (stamp : ℕ) (answer : AnyAnswer) : Type 0 where
-  pub entry : Entry
+  pub entry : SeatedEntry
   pub logged : Contains log.entries entry
   pub stamped : entry.stamp ≡ stamp
   pub given : Contains (map answer_of entry.answers) answer
@@ -27,5 +27,5 @@ AnswersAreLogged = (name : ℕ) (b : Looping) → IsLoopOf name b → (t : Ticke
 
 -- and where nodes come back, whatever a node began with
 abbrev pub AnswersAreLoggedFrom : Type 0
-AnswersAreLoggedFrom = (start : ℕ) (core : Held) (b : Looping) → IsLoopFrom start core b → (t : Ticket) (stamp : ℕ) (answer : AnyAnswer)
+AnswersAreLoggedFrom = (start : ℕ) (core : CoreState) (b : Looping) → IsLoopFrom start core b → (t : Ticket) (stamp : ℕ) (answer : AnyAnswer)
     → Contains b.desk.replies (told_answer t stamp answer) → LogsAnswer b.log stamp answer

@@ -1,6 +1,6 @@
 -- How the loop of a node comes to be as it is.
 use Rattle.std.specs.Prelude.{ℕ, false, zero, suc, ◌≡◌, ◌⊎◌, List, [], ◌∷◌, map}
-use Rattle.node_log.specs.NodeCoreHeld.{Held}
+use Rattle.node_log.specs.NodeCoreState.{CoreState}
 use Rattle.node_log.specs.Openings.{opening_core}
 use Rattle.tray.specs.Held.{Waiting, none_for}
 use Rattle.node_loop.specs.declared.item.Item.{Item}
@@ -12,7 +12,7 @@ use Rattle.node_loop.specs.Steps.{Outcome}
 use Rattle.node_loop.specs.Items.{Works, Idles}
 
 -- the loop of a node that begins with this core, before its first turn: its steps have stamps above this one
-abbrev pub begun : ℕ → Held → Looping
+abbrev pub begun : ℕ → CoreState → Looping
 begun stamp core = record {
   core = core;
   world = core.world;
@@ -44,7 +44,7 @@ abbrev pub HandsOver : Looping → Looping → Type 0
 HandsOver a b = b ≡ record a { owed = record a.owed { note = b.owed.note } }
 
 -- so many turns, replies handed out, and what is owed handed over lead from the beginning to b
-abbrev pub ComesBy : ℕ → ℕ → Held → Looping → Type 0
+abbrev pub ComesBy : ℕ → ℕ → CoreState → Looping → Type 0
 ComesBy zero stamp core b = b ≡ begun stamp core
 ComesBy (suc n) stamp core b = (a : Looping) × ComesBy n stamp core a × (Turns a b ⊎ HandsOut a b ⊎ HandsOver a b)
 
@@ -61,11 +61,11 @@ abbrev pub Replaces : Looping → Looping → Type 0
 Replaces a b = (older : ℕ) × (next : ℕ) × (b ≡ with_next older next a)
 
 -- the same where nodes come back
-abbrev pub ComesFrom : ℕ → ℕ → Held → Looping → Type 0
+abbrev pub ComesFrom : ℕ → ℕ → CoreState → Looping → Type 0
 ComesFrom zero stamp core b = b ≡ begun stamp core
 ComesFrom (suc n) stamp core b = (a : Looping) × ComesFrom n stamp core a × (Turns a b ⊎ HandsOut a b ⊎ HandsOver a b ⊎ Replaces a b)
 
 -- it is the loop of the node that began with this core, behind this stamp
-pub record IsLoopFrom (stamp : ℕ) (core : Held) (b : Looping) : Type 0 where
+pub record IsLoopFrom (stamp : ℕ) (core : CoreState) (b : Looping) : Type 0 where
   pub moves : ℕ
   pub comes : ComesFrom moves stamp core b

@@ -5,7 +5,7 @@ use Rattle.protocol_model.specs.Event.{Answer as AnyAnswer}
 use Rattle.node_log.specs.declared.Answer.{Answer}
 use Rattle.node_log.specs.declared.StepFault.TheVariants.{NotLive}
 use Rattle.node_log.specs.NodeEventsSeen.{answer_of}
-use Rattle.node_log.specs.NodeCoreHeld.{Held}
+use Rattle.node_log.specs.NodeCoreState.{CoreState}
 use Rattle.node_loop.specs.declared.item.Ticket.{Ticket}
 use Rattle.node_loop.specs.declared.replies.TaskFault.TheVariants.{NodeLeft, Step}
 use Rattle.node_loop.specs.declared.waiting.Caller.{Caller}
@@ -47,11 +47,11 @@ abbrev pub dead_told : Option Process → Ticket → List Told
 dead_told None t = []
 dead_told (Some p) t = tell (Some t) (Err (Step (NotLive p)))
 
-abbrev pub drop_told : Held → Caller → List Told
+abbrev pub drop_told : CoreState → Caller → List Told
 drop_told h c = if is_dropped h c then dead_told c.holder c.ticket else []
 
 -- lock calls that the node has dropped wait no more
-abbrev pub swept : Held → Kept → Kept
+abbrev pub swept : CoreState → Kept → Kept
 swept h k = record k {
   calls = filter (λ c. not (is_dropped h c)) k.calls;
   replies = k.replies ++ flat_map (drop_told h) k.calls;
@@ -70,7 +70,7 @@ awaiting course number own k = record k {
 }
 
 -- a step of this stamp was made for this ticket, and its answers are told
-abbrev pub settled : ℕ → Course → Option Ticket → Held → List Answer → Kept → Kept
+abbrev pub settled : ℕ → Course → Option Ticket → CoreState → List Answer → Kept → Kept
 settled stamp course own h answers k =
     swept h (all_answered stamp own (map answer_of answers) (awaiting course h.last_call own k))
 

@@ -7,7 +7,7 @@ use Rattle.node_log.specs.NodeEvents.{Event as NodeEvent}
 use Rattle.node_log.specs.NodeEvents.TheVariants as event
 use Rattle.node_log.specs.declared.Letter.{Letter}
 use Rattle.node_log.specs.declared.Letter.TheVariants.{Apply, JoinAsk, Admit, Welcome, Down}
-use Rattle.node_log.specs.NodeCoreHeld.{Held}
+use Rattle.node_log.specs.NodeCoreState.{CoreState}
 use Rattle.node_log.specs.NodeCoreMade.{Made as Turn}
 use Rattle.node_log.specs.NodeCoreSteps.{Steps}
 use Rattle.node_loop.specs.declared.edit.Edit.{Edit}
@@ -63,13 +63,13 @@ suits note.Whole Down known = not known
 suits n letter known = false
 
 -- whatever the node comes to behind this letter, the note says what that does to its table
-pub record NotedBy (note : Note) (from : ℕ) (letter : Letter) (h : Held) : Type 0 where
+pub record NotedBy (note : Note) (from : ℕ) (letter : Letter) (h : CoreState) : Type 0 where
   pub fits : suits note letter (set_of h.world from && not (from == h.name)) ≡ true
-  pub does : (e : Edition) (k : Held) (made : Turn) → Steps (event.FromPeer from letter) h k made → Does note (showing h.table e) (showing k.table e)
+  pub does : (e : Edition) (k : CoreState) (made : Turn) → Steps (event.FromPeer from letter) h k made → Does note (showing h.table e) (showing k.table e)
 
 -- a step is noted so: a letter by what it does to the table, and as nothing what the node does of its own, which leaves the table; but a
 -- leave may be noted as that
-abbrev pub Notes : NodeEvent → Note → Held → Type 0
+abbrev pub Notes : NodeEvent → Note → CoreState → Type 0
 Notes (event.FromPeer from letter) n h = NotedBy n from letter h
 Notes event.Leave n h = (n ≡ note.Nothing) ⊎ (n ≡ note.One Leave)
 Notes _ n h = n ≡ note.Nothing

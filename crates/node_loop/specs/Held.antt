@@ -5,11 +5,11 @@ use Rattle.protocol_model.specs.Links.{is_nil}
 use Rattle.protocol_model.specs.Node.{holds_global}
 use Rattle.protocol_model.specs.Event.{can_retry}
 use Rattle.node_log.specs.declared.Letter.{Letter}
-use Rattle.node_log.specs.NodeCoreHeld.{Held}
+use Rattle.node_log.specs.NodeCoreState.{CoreState}
 use Rattle.node_log.specs.NodeCoreSeen.{node_of}
 use Rattle.tray.specs.Held.{Waiting, with_letter, renewed}
 use Rattle.term.specs.NodeSets.{succeeded}
-use Rattle.node_log.specs.Entries.{Entry, Logged}
+use Rattle.node_log.specs.Entries.{SeatedEntry, Logged}
 use Rattle.node_loop.specs.declared.item.Item.{Item}
 use Rattle.node_loop.specs.declared.item.Item.TheVariants.{Letter as LetterItem}
 use Rattle.node_loop.specs.declared.edit.Owed.{Owed}
@@ -18,13 +18,13 @@ use Rattle.node_loop.specs.Desks.{Kept, first_leave}
 -- what the log of a node says, whatever room it has
 pub record Written : Type 0 where
   pub node : ℕ
-  pub entries : List Entry  -- the oldest first
+  pub entries : List SeatedEntry  -- the oldest first
 
 abbrev pub written : Logged → Written
 written l = record { node = l.node; entries = l.entries }
 
 pub record Looping : Type 0 where
-  pub core : Held
+  pub core : CoreState
   pub world : List ℕ  -- all nodes, rising
   pub log : Written
   pub tray : List (Waiting Item)

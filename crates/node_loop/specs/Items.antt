@@ -3,8 +3,8 @@ use Rattle.std.specs.Prelude.{ℕ, Bool, true, false, ◌≡◌, ◌≤◌, ◌-
 use Rattle.node_log.specs.declared.StepFault.{StepFault}
 use Rattle.node_log.specs.NodeEventsSeen.{fault_of, is_memory}
 use Rattle.node_log.specs.NodeCoreSteps.{refusal_of}
-use Rattle.node_log.specs.declared.Event.{Event}
-use Rattle.node_log.specs.declared.Event.TheVariants.{Retry, Leave}
+use Rattle.node_log.specs.declared.LocalEvent.{LocalEvent}
+use Rattle.node_log.specs.declared.LocalEvent.TheVariants.{Retry, Leave}
 use Rattle.node_log.specs.Events.{node_event, is_leave, knows_contact}
 use Rattle.node_loop.specs.declared.item.Item.{Item}
 use Rattle.node_loop.specs.declared.item.Item.TheVariants as item
@@ -41,14 +41,14 @@ WaitsToLeave ticket a r b =
     (λ why. (why ≡ Memory) × (b ≡ a))
 
 -- the core takes the step of an event, or it refuses it and the owner of the ticket is told so
-abbrev pub Asks : Option Ticket → Event → Looping → Outcome → Looping → Type 0
+abbrev pub Asks : Option Ticket → LocalEvent → Looping → Outcome → Looping → Type 0
 Asks ticket e a r b =
     Goes (by_event ticket e a) a r b
     ⊎ ((fault : StepFault) × (is_memory fault ≡ false) × (refusal_of (node_event e) a.core ≡ fault_of fault)
     × Refuses ticket (Step fault) a r b)
 
 -- a task is refused where its contact isn't of the world, and then by a node that has left; a leave waits
-abbrev pub Accepts : Option Ticket → Event → Looping → Outcome → Looping → Type 0
+abbrev pub Accepts : Option Ticket → LocalEvent → Looping → Outcome → Looping → Type 0
 Accepts ticket e a r b =
     MatchBool (knows_contact a.world e)
     (MatchBool a.left (Refuses ticket NodeLeft a r b)

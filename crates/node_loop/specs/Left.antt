@@ -4,7 +4,7 @@ use Rattle.std.specs.List.{list_any}
 use Rattle.node_log.specs.declared.WorldEvent.{WorldEvent}
 use Rattle.node_log.specs.declared.WorldEvent.TheVariants.{At, Deliver, Restart}
 use Rattle.node_log.specs.Events.{is_leave}
-use Rattle.node_log.specs.NodeCoreHeld.{Held}
+use Rattle.node_log.specs.NodeCoreState.{CoreState}
 use Rattle.node_loop.specs.declared.item.Ticket.{Ticket}
 use Rattle.node_loop.specs.Told.{Told, Left}
 use Rattle.node_loop.specs.Held.{Looping, Written}
@@ -31,5 +31,5 @@ LeavesAreLogged = (name : ℕ) (b : Looping) → IsLoopOf name b → (t : Ticket
 
 -- and where nodes come back, whatever a node began with
 abbrev pub LeavesAreLoggedFrom : Type 0
-LeavesAreLoggedFrom = (start : ℕ) (core : Held) (b : Looping) → IsLoopFrom start core b → (t : Ticket) → Contains b.desk.replies (told_left t)
+LeavesAreLoggedFrom = (start : ℕ) (core : CoreState) (b : Looping) → IsLoopFrom start core b → (t : Ticket) → Contains b.desk.replies (told_left t)
     → logs_leave b.log ≡ true

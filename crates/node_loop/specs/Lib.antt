@@ -1,7 +1,7 @@
 pub use Rattle.node_log.specs.Events
 pub use Rattle.closings.specs.Alone
 pub use Rattle.closings.specs.Guarded
-pub use Rattle.node_log.specs.NodeCoreHeld
+pub use Rattle.node_log.specs.NodeCoreState
 pub use Rattle.node_log.specs.NodeCoreSeen
 pub use Rattle.node_log.specs.NodeCoreSteps
 pub use Rattle.node_log.specs.NodeEventsSeen

@@ -10,7 +10,7 @@ use Rattle.closings.specs.Alone.{Stamped, Made, Does, sent, unread_behind, Start
 use Rattle.closings.specs.Guarded.{Begins}
 use Rattle.term.specs.Nodes.{name_of}
 use Rattle.term.specs.NodeSets.{set_of, with_older}
-use Rattle.node_log.specs.NodeCoreHeld.{Held, bound_of, IsNext}
+use Rattle.node_log.specs.NodeCoreState.{CoreState, bound_of, IsNext}
 use Rattle.node_log.specs.NodeCoreSeen.{node_of}
 use Rattle.node_log.specs.NodeCoreSteps.{IsSaidBy}
 use Rattle.node_log.specs.Seen.{seen_entry}
@@ -25,7 +25,7 @@ abbrev pub IsByName : Opening → Type 0
 IsByName o = (a b : ℕ) → name_of a ≡ name_of b → in_world o a ≡ in_world o b
 
 -- The node is one of a world that opens so, as are all that have started, as far as it was told
-pub record IsNodeAmong (o : Opening) (h : Held) : Type 0 where
+pub record IsNodeAmong (o : Opening) (h : CoreState) : Type 0 where
   pub bound : o.bound ≡ bound_of h.world
   pub inside : (c : ℕ) → with_older h.world c ≡ true → in_world o c ≡ true
   pub here : set_of h.world h.name ≡ true
@@ -78,7 +78,7 @@ abbrev pub IsSoundFrom : Opening → Start → Looping → Dealt → Type 0
 IsSoundFrom o start a d = StandsFrom o start (λ f. []) a d
 
 -- a loop begins so, whatever its core is, where that is one of the world
-abbrev pub BeginsSoundFrom : Held → ℕ → Looping → Type 0
+abbrev pub BeginsSoundFrom : CoreState → ℕ → Looping → Type 0
 BeginsSoundFrom h stamp a = (o : Opening) → IsNodeAmong o h → IsSoundFrom o (record { node = node_of h; stamp = stamp }) a nothing_dealt
 
 -- what node a says at its end, with the letters that it took, and those that it put for each node

@@ -9,7 +9,7 @@ use Rattle.closings.specs.Guarded.{DoesIfFit, Vouches}
 use Rattle.registry_model.specs.Table.{Table}
 use Rattle.term.specs.Nodes.{IsFirst}
 use Rattle.term.specs.NodeSets.{set_of}
-use Rattle.node_log.specs.NodeCoreHeld.{Held, bound_of}
+use Rattle.node_log.specs.NodeCoreState.{CoreState, bound_of}
 use Rattle.node_log.specs.NodeCoreSeen.{node_of}
 use Rattle.node_log.specs.Seen.{seen_entry}
 use Rattle.node_loop.specs.declared.item.Item.{Item}
@@ -19,14 +19,14 @@ use Rattle.node_loop.specs.Steps.{Outcome}
 use Rattle.node_loop.specs.Dealings.{Dealt, nothing_dealt, letters_in, took, put, receivers, waiting_for, Deals}
 
 -- a node is one of a world that opens so, of the first nodes of their names
-pub record IsNodeOf (o : Opening) (h : Held) : Type 0 where
+pub record IsNodeOf (o : Opening) (h : CoreState) : Type 0 where
   pub bound : o.bound ≡ bound_of h.world
   pub inside : in_world o ≡ set_of h.world
   pub here : set_of h.world h.name ≡ true
   pub first : All IsFirst h.world
 
 -- what the node that this is was at its opening
-abbrev pub opened : Opening → Held → Node
+abbrev pub opened : Opening → CoreState → Node
 opened o h = opening_node (in_cluster o) h.name
 
 -- The log is that of steps which the node did from its opening on, as far as it can say so alone, with the letters that it took. Behind
@@ -52,7 +52,7 @@ abbrev pub IsSound : Opening → Looping → Dealt → Type 0
 IsSound o a d = Stands o (λ f. []) a d
 
 -- where its core is the one that its node opens with, and it has dealt in nothing, a loop is sound
-abbrev pub BeginsSound : Held → Looping → Type 0
+abbrev pub BeginsSound : CoreState → Looping → Type 0
 BeginsSound h a = (o : Opening) → IsNodeOf o h → node_of h ≡ opened o h → IsSound o a nothing_dealt
 
 -- where the thread ends: the log is that of such steps still, the core stands so, and what was put on its way begins what they send

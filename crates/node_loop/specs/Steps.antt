@@ -5,14 +5,14 @@ use Rattle.node_log.specs.declared.Answer.{Answer}
 use Rattle.node_log.specs.NodeEvents.{Event as NodeEvent}
 use Rattle.node_log.specs.NodeEvents.TheVariants.{FromPeer}
 use Rattle.node_log.specs.NodeEventsSeen.{fault_of, is_memory}
-use Rattle.node_log.specs.NodeCoreHeld.{Held}
+use Rattle.node_log.specs.NodeCoreState.{CoreState}
 use Rattle.node_log.specs.NodeCoreMade.{Made as Turn}
 use Rattle.node_log.specs.NodeCoreSteps.{Steps, IsAsBefore, refusal_of}
-use Rattle.node_log.specs.declared.Event.{Event}
+use Rattle.node_log.specs.declared.LocalEvent.{LocalEvent}
 use Rattle.node_log.specs.declared.WorldEvent.{WorldEvent}
 use Rattle.node_log.specs.declared.WorldEvent.TheVariants.{At, Deliver}
 use Rattle.node_log.specs.Events.{node_event}
-use Rattle.node_log.specs.Entries.{Entry}
+use Rattle.node_log.specs.Entries.{SeatedEntry}
 use Rattle.node_log.specs.Logs.{answered}
 use Rattle.node_loop.specs.declared.item.Stamped.{Stamped}
 use Rattle.node_loop.specs.declared.item.Ticket.{Ticket}
@@ -39,7 +39,7 @@ pub record Cause : Type 0 where
   pub seen : ℕ
 
 -- an event of this node
-abbrev pub by_event : Option Ticket → Event → Looping → Cause
+abbrev pub by_event : Option Ticket → LocalEvent → Looping → Cause
 by_event own e a = record {
   event = node_event e;
   logged = At a.core.name e;
@@ -62,7 +62,7 @@ by_letter from l a = record {
 abbrev pub stamp_of : Cause → Looping → ℕ
 stamp_of k a = max a.stamp k.seen + 1
 
-abbrev pub entry_of : Cause → Looping → List Answer → Entry
+abbrev pub entry_of : Cause → Looping → List Answer → SeatedEntry
 entry_of k a answers = record {
   stamp = stamp_of k a;
   seat = option_map (λ t. t.seat) k.own;
@@ -71,7 +71,7 @@ entry_of k a answers = record {
 }
 
 -- the desk behind the step
-abbrev pub desk_of : Cause → Looping → Held → List Answer → Kept
+abbrev pub desk_of : Cause → Looping → CoreState → List Answer → Kept
 desk_of k a core answers = settled (stamp_of k a) k.course k.own core answers a.desk
 
 -- what a step changes of what the node shows is noted, and owed as the last of so many steps besides what was owed
@@ -104,7 +104,7 @@ pub record Rests (a b : Looping) : Type 0 where
 
 -- The core's step is made and stands in the log, and what it changes is owed to readers. The first of its letters, if not all, are last
 -- in the tray, and the first of those are told who are to be
-pub record Begun (k : Cause) (due : Held → List Answer → Kept) (a b : Looping) : Type 0 where
+pub record Begun (k : Cause) (due : CoreState → List Answer → Kept) (a b : Looping) : Type 0 where
   pub turn : Turn
   pub step : Steps k.event a.core b.core turn
   pub log : b.log ≡ record a.log { entries = a.log.entries ++ entry_of k a turn.answers ∷ [] }
@@ -119,7 +119,7 @@ IsSpent k a = max a.stamp k.seen ≡ 2 ^ 64 - 1
 
 -- The thread ends within a step. Where no stamp is left for it nothing changed. Where one is, memory was refused, before the step was
 -- made or behind that
-abbrev pub Ends : TurnFault → Cause → (Held → List Answer → Kept) → Looping → Looping → Type 0
+abbrev pub Ends : TurnFault → Cause → (CoreState → List Answer → Kept) → Looping → Looping → Type 0
 Ends StampsSpent k due a b = IsSpent k a × (b ≡ a)
 Ends Memory k due a b = (IsSpent k a → ⊥) × (Rests a b ⊎ Begun k due a b)
 
@@ -133,7 +133,7 @@ Goes k a (Ok _) b = Makes k a b
 Goes k a (Err why) b = Ends why k (desk_of k a) a b
 
 -- so, or the core refuses the event and nothing changes
-abbrev pub Tries : Option Ticket → Event → Looping → Tried → Looping → Type 0
+abbrev pub Tries : Option Ticket → LocalEvent → Looping → Tried → Looping → Type 0
 Tries own e a Made b = Makes (by_event own e a) a b × (b.owed ≡ a.owed)
 Tries own e a (Refused fault) b =
     (b ≡ a) × (is_memory fault ≡ false) × (refusal_of (node_event e) a.core ≡ fault_of fault)

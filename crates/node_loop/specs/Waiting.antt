@@ -4,9 +4,9 @@ use Rattle.registry_model.specs.Process.{Process}
 use Rattle.protocol_model.specs.Node.{call_of}
 use Rattle.node_log.specs.declared.Call.{Call as ClientCall}
 use Rattle.node_log.specs.declared.Call.TheVariants.{Spawn, Whereis, RegisteredNames, Notices, Register, ReRegister, Unregister, SetLock, DelLock, Join}
-use Rattle.node_log.specs.declared.Event.{Event}
-use Rattle.node_log.specs.declared.Event.TheVariants.{Call, Retry, Exit, Leave}
-use Rattle.node_log.specs.NodeCoreHeld.{Held}
+use Rattle.node_log.specs.declared.LocalEvent.{LocalEvent}
+use Rattle.node_log.specs.declared.LocalEvent.TheVariants.{Call, Retry, Exit, Leave}
+use Rattle.node_log.specs.NodeCoreState.{CoreState}
 use Rattle.node_log.specs.NodeCoreSeen.{node_of}
 use Rattle.node_loop.specs.declared.item.Ticket.{Ticket}
 use Rattle.node_loop.specs.declared.waiting.Caller.{Caller}
@@ -27,7 +27,7 @@ course_of_call (DelLock p id nodes) = OfHolder p
 course_of_call (Join m) = Numbered
 
 -- other events have no answer
-abbrev pub course_of : Event → Course
+abbrev pub course_of : LocalEvent → Course
 course_of (Call c) = course_of_call c
 course_of Retry = Accepted
 course_of (Exit p) = Accepted
@@ -51,10 +51,10 @@ abbrev pub without : ℕ → List Caller → List Caller
 without k = filter (λ c. not (c.number == k))
 
 -- the process has no lock call at the node
-abbrev pub has_none : Held → Option Process → Bool
+abbrev pub has_none : CoreState → Option Process → Bool
 has_none h None = false
 has_none h (Some p) = is_none (call_of p (node_of h).calls)
 
 -- a lock call that its node has dropped, as its process is dead
-abbrev pub is_dropped : Held → Caller → Bool
+abbrev pub is_dropped : CoreState → Caller → Bool
 is_dropped h c = has_none h c.holder

@@ -2,7 +2,7 @@
 ghost use Rattle.std.specs.Prelude.{◌≡◌};
 ghost use Rattle.node_loop.specs.Items.{is_task};
 
-use node_log::{Event, Letter};
+use node_log::{Letter, LocalEvent};
 
 /// A letter with the stamp of the step that sent it.
 #[derive(Debug, PartialEq, Eq, Drop)]
@@ -30,7 +30,7 @@ pub struct Task {
     /// Who is replied to, if anybody is.
     pub ticket: Option<Ticket>,
     /// The event, at the node that takes it.
-    pub event: Event,
+    pub event: LocalEvent,
 }
 
 /// One item of an inbox, which lies there under the number of its sender's line.

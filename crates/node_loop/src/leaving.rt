@@ -6,7 +6,7 @@ use crate::fault::TurnFault;
 use crate::node_loop::NodeLoop;
 use crate::stepping::Tried;
 use name_table::Names;
-use node_log::{Event, Record};
+use node_log::{LocalEvent, Record};
 use std::alloc::Global;
 
 impl<N: Names<Memory = Global>, L: Record> NodeLoop<N, L> {
@@ -19,7 +19,7 @@ impl<N: Names<Memory = Global>, L: Record> NodeLoop<N, L> {
             return Ok(());
         }
         let ticket = self.desk.first_leave().flatten();
-        match self.attempt(ticket, Event::Leave) {
+        match self.attempt(ticket, LocalEvent::Leave) {
             Tried::Made => {
                 self.left = true;
                 self.owed.add(Note::One(Edit::Leave), self.log.count());

@@ -1,7 +1,7 @@
 //! A node's loop.
 ghost use Rattle.std.specs.Prelude.{ℕ, ◌≡◌, ◌∷◌, [], true, false, length, map, IfOk, OnErr, MatchOption};
 ghost use Rattle.tray.specs.Held.{none_for};
-ghost use Rattle.node_log.specs.NodeCoreHeld.{spans_of, IsNext};
+ghost use Rattle.node_log.specs.NodeCoreState.{spans_of, IsNext};
 ghost use Rattle.node_loop.specs.Told.{told_by};
 ghost use Rattle.node_loop.specs.Coming.{begun};
 ghost use Rattle.node_loop.specs.Desks.{empty_desk};

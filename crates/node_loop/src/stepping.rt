@@ -17,7 +17,7 @@ use crate::replies::TaskFault;
 use crate::tries::TRIES;
 use crate::waiting::Course;
 use name_table::Names;
-use node_log::{Cause, Event, NodeCore, Record, StepFault, Turn, WorldEvent};
+use node_log::{Cause, LocalEvent, NodeCore, Record, StepFault, Turn, WorldEvent};
 use std::alloc::{AllocError, Global};
 use term::Node;
 
@@ -134,7 +134,7 @@ impl<N: Names<Memory = Global>, L: Record> NodeLoop<N, L> {
     }
 
     /// Tries the step of an event, of this ticket or of nobody. The contact of a join is of the world.
-    pub(crate) fn attempt(&mut self, own: Option<Ticket>, event: Event) -> Tried
+    pub(crate) fn attempt(&mut self, own: Option<Ticket>, event: LocalEvent) -> Tried
         requires { knows_contact self.old.world event ≡ true }
         ensures { Tries own event self.old result self.new }
     {
@@ -270,7 +270,7 @@ impl<N: Names<Memory = Global>, L: Record> NodeLoop<N, L> {
         if !is_due {
             return self.leave_if_free();
         }
-        match self.attempt(None, Event::Retry) {
+        match self.attempt(None, LocalEvent::Retry) {
             Tried::Ended(fault) => Err(fault),
             Tried::Made => self.leave_if_free(),
             Tried::Refused(_) => Ok(()),

@@ -5,7 +5,7 @@ ghost use Rattle.node_loop.specs.Waiting.{course_of, callers_of, ticket_under, i
 use crate::item::Ticket;
 use crate::tries::room_in_list;
 use name_table::Names;
-use node_log::{Call, Event, NodeCore};
+use node_log::{Call, LocalEvent, NodeCore};
 use std::alloc::{AllocError, Global};
 use term::Pid;
 
@@ -35,13 +35,13 @@ pub(crate) struct Caller {
 
 impl Course {
     /// How the answer to this event comes.
-    pub(crate) fn of(event: &Event) -> Self
+    pub(crate) fn of(event: &LocalEvent) -> Self
         ensures { result ≡ course_of event.now }
     {
         let call = match event {
-            Event::Call(call) => call,
-            Event::Leave => return Course::AtOnce,
-            Event::Retry | Event::Exit(_) => return Course::Accepted,
+            LocalEvent::Call(call) => call,
+            LocalEvent::Leave => return Course::AtOnce,
+            LocalEvent::Retry | LocalEvent::Exit(_) => return Course::Accepted,
         };
         match call {
             Call::Spawn | Call::Whereis(_) | Call::RegisteredNames | Call::Notices(_) => {

@@ -23,7 +23,7 @@ use Rattle.term.proofs.Older.{reached, reaching}
 use Rattle.term.proofs.OneNode.{exact_nodes}
 use Rattle.term.proofs.Serials.{digits_model}
 use Rattle.term.proofs.Succeeded.{with_node-behind}
-use Rattle.node_loop.specs.NodeCoreHeld.{HaveLeft}
+use Rattle.node_loop.specs.NodeCoreState.{HaveLeft}
 use Rattle.wire_end.specs.Returning.{count_left}
 use Rattle.node_port.specs.Beginnings.{Beginning, IsBeginText, IsBeginLine, IsBeginning, fits, is_one_of_each, before, present_of, or_first, world_of}
 use Rattle.node_port.specs.Numbers.{SpellsNumber}

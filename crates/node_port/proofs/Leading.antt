@@ -15,7 +15,7 @@ use Rattle.node_loop.specs.Coming.{IsLoopOf, IsLoopFrom, Turns, HandsOut, HandsO
 use Rattle.node_loop.specs.Editions.{updated}
 use Rattle.node_loop.specs.Held.{Looping, Written}
 use Rattle.node_loop.specs.Items.{by_leave}
-use Rattle.node_loop.specs.NodeCoreHeld.{Held}
+use Rattle.node_loop.specs.NodeCoreState.{CoreState}
 use Rattle.node_loop.specs.Owing.{shown_by, Owes}
 use Rattle.node_loop.specs.Steps.{Outcome, entry_of}
 use Rattle.node_loop.specs.Told.{Told, Came}
@@ -40,9 +40,9 @@ pub record Leads (nobody : Type 0) (reads : List (ℕ × LinkLine)) (letters : L
   pub order : (out : List ℕ) → IsOrdered out a.end → IsOrdered (out ++ letters) b.end
   pub owes : (e : Edition) → Owes a.loop e → Owes b.loop (shown_behind e updates)
   pub came : nobody → (name : ℕ) → IsLoopOf name a.loop → IsLoopOf name b.loop
-  pub came_from : (stamp : ℕ) (core : Held) → IsLoopFrom stamp core a.loop → IsLoopFrom stamp core b.loop
+  pub came_from : (stamp : ℕ) (core : CoreState) → IsLoopFrom stamp core a.loop → IsLoopFrom stamp core b.loop
   pub stays : (stamp : ℕ) (answer : AnyAnswer) → LogsAnswer a.loop.log stamp answer → LogsAnswer b.loop.log stamp answer
-  pub given : (stamp : ℕ) (core : Held) → IsLoopFrom stamp core a.loop → All (IsGiven b.loop.log) answers
+  pub given : (stamp : ℕ) (core : CoreState) → IsLoopFrom stamp core a.loop → All (IsGiven b.loop.log) answers
 
 shown_on : (e : Edition) (us vs : List Update) → shown_behind e (us ++ vs) ≡ shown_behind (shown_behind e us) vs
 shown_on e [] vs = refl
@@ -142,7 +142,7 @@ moves_on name a b move is = record {
   comes = (a, is.comes, move);
 }
 
-pub moves_from : (stamp : ℕ) (core : Held) (a b : Looping) → Turns a b ⊎ HandsOut a b ⊎ HandsOver a b ⊎ Replaces a b → IsLoopFrom stamp core a
+pub moves_from : (stamp : ℕ) (core : CoreState) (a b : Looping) → Turns a b ⊎ HandsOut a b ⊎ HandsOver a b ⊎ Replaces a b → IsLoopFrom stamp core a
     → IsLoopFrom stamp core b
 moves_from stamp core a b move is = record { moves = suc is.moves; comes = (a, is.comes, move) }
 

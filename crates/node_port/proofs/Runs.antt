@@ -15,7 +15,7 @@ use Rattle.node_loop.specs.Answers.{LogsAnswer}
 use Rattle.node_loop.specs.Coming.{begun, IsLoopOf, IsLoopFrom}
 use Rattle.node_loop.specs.Editions.{opening}
 use Rattle.node_loop.specs.Held.{Looping, Written}
-use Rattle.node_loop.specs.NodeCoreHeld.{Held, fresh, fresh_behind}
+use Rattle.node_loop.specs.NodeCoreState.{CoreState, fresh, fresh_behind}
 use Rattle.node_loop.specs.NodeCoreSeen.{node_of}
 use Rattle.node_loop.specs.Openings.{opening_core}
 use Rattle.node_loop.specs.Owing.{LeadsTo, Owes, shown_by}
@@ -316,7 +316,7 @@ opens_loop node names Founds none = founds_loop node names 0
 opens_loop node names (Behind b) none = alone_loop node (world_of node names b.left) b.stamp b.left none
 opens_loop node names Plainly none = alone_loop node (world_of node names (before node)) 0 (before node) none
 
-opens_from : (stamp : ℕ) (core : Held) → IsLoopFrom stamp core (begun stamp core)
+opens_from : (stamp : ℕ) (core : CoreState) → IsLoopFrom stamp core (begun stamp core)
 opens_from stamp core = record { moves = 0; comes = refl }
 
 opens_named : (node : ℕ) (names : List ℕ) (how : Opens) → node ≡ (core_of node names how).name
@@ -324,7 +324,7 @@ opens_named node names Founds = refl
 opens_named node names (Behind b) = refl
 opens_named node names Plainly = refl
 
-opens_owing : (stamp : ℕ) (core : Held) → core.table ≡ [] → Owes (begun stamp core) (opening core.name)
+opens_owing : (stamp : ℕ) (core : CoreState) → core.table ≡ [] → Owes (begun stamp core) (opening core.name)
 opens_owing stamp core none = record {
   world = refl;
   length = omega arith;

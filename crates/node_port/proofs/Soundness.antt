@@ -17,7 +17,7 @@ use Rattle.node_loop.specs.Alone.{node_behind}
 use Rattle.node_loop.specs.Guarded.{Vouches}
 use Rattle.node_loop.specs.Dealings.{Dealt, took, put}
 use Rattle.node_loop.specs.Held.{Looping, Written}
-use Rattle.node_loop.specs.NodeCoreHeld.{Held}
+use Rattle.node_loop.specs.NodeCoreState.{CoreState}
 use Rattle.node_loop.specs.NodeCoreSeen.{node_of}
 use Rattle.node_loop.specs.Said.{IsSaid}
 use Rattle.node_loop.specs.Sound.{IsNodeOf, opened, EndsSound}
@@ -56,11 +56,11 @@ module _ (o : Opening) where
   ended_as : (a b : Looping) (d : Dealt) → b.core ≡ a.core → b.log ≡ a.log → EndsSound o a d → EndsSound o b d
   ended_as a b d core log E = record {
     of = subst (IsNodeOf o) (sym core) E.of;
-    named = ap (λ (w : Written). w.node) log ∙ (E.named ∙ sym (ap (λ (h : Held). h.name) core));
+    named = ap (λ (w : Written). w.node) log ∙ (E.named ∙ sym (ap (λ (h : CoreState). h.name) core));
     course = E.course;
     logged = E.logged ∙ ap (λ (w : Written). map seen_entry w.entries) (sym log);
-    node = subst (λ (h : Held). node_behind (opened o h) E.course ≡ node_of h) (sym core) E.node;
-    vouches = subst (λ (h : Held). Vouches (IsSaid (in_world o)) o h.name (took d) (put d) E.course) (sym core) E.vouches;
+    node = subst (λ (h : CoreState). node_behind (opened o h) E.course ≡ node_of h) (sym core) E.node;
+    vouches = subst (λ (h : CoreState). Vouches (IsSaid (in_world o)) o h.name (took d) (put d) E.course) (sym core) E.vouches;
   }
 
   still_sound : (d : Deed) (a b : Stand) → is_still d ≡ true → Does d a b → IsSoundAt o a → IsSoundAt o b
@@ -278,7 +278,7 @@ module _ (o : Opening) where
       go Spent on S m = subst (λ (x : Standing). IsSoundIn x o c) (sym m.0) (subst (EndsSoundAt o) (sym m.3) S)
 
 -- a node as it opens
-opens_at : (o : Opening) (core : Held) (stamp : ℕ) → IsStrictlyIncreasing core.world → IsNodeOf o core → node_of core ≡ opened o core
+opens_at : (o : Opening) (core : CoreState) (stamp : ℕ) → IsStrictlyIncreasing core.world → IsNodeOf o core → node_of core ≡ opened o core
     → IsSoundAt o (record { loop = begun stamp core; end = begun_end core.name core.world })
 opens_at o core stamp rising I opens = (
   and_from (in_world o core.name) _ (ap (λ (f : ℕ → Bool). f core.name) I.inside ∙ I.here)

@@ -12,7 +12,7 @@ use Rattle.node_loop.specs.Alone.{node_behind}
 use Rattle.node_loop.specs.Coming.{begun}
 use Rattle.node_loop.specs.Dealings.{Dealt, took, put}
 use Rattle.node_loop.specs.Held.{Looping, Written}
-use Rattle.node_loop.specs.NodeCoreHeld.{Held}
+use Rattle.node_loop.specs.NodeCoreState.{CoreState}
 use Rattle.node_loop.specs.NodeCoreSeen.{node_of}
 use Rattle.node_loop.specs.Returning.{Start, IsByName, IsNodeAmong, IsSoundFrom, EndsSoundFrom, VouchesFrom}
 use Rattle.node_loop.specs.Seen.{seen_entry}
@@ -78,11 +78,11 @@ module _ (o : Opening) (start : Start) where
   ended_as : (a b : Looping) (d : Dealt) → b.core ≡ a.core → b.log ≡ a.log → EndsSoundFrom o start a d → EndsSoundFrom o start b d
   ended_as a b d core log E = record {
     of = subst (IsNodeAmong o) (sym core) E.of;
-    named = ap (λ (w : Written). w.node) log ∙ (E.named ∙ sym (ap (λ (h : Held). h.name) core));
+    named = ap (λ (w : Written). w.node) log ∙ (E.named ∙ sym (ap (λ (h : CoreState). h.name) core));
     course = E.course;
     logged = E.logged ∙ ap (λ (w : Written). map seen_entry w.entries) (sym log);
-    node = subst (λ (h : Held). node_behind start.node E.course ≡ node_of h) (sym core) E.node;
-    vouches = subst (λ (h : Held). VouchesFrom o start h.name (took d) (put d) E.course) (sym core) E.vouches;
+    node = subst (λ (h : CoreState). node_behind start.node E.course ≡ node_of h) (sym core) E.node;
+    vouches = subst (λ (h : CoreState). VouchesFrom o start h.name (took d) (put d) E.course) (sym core) E.vouches;
   }
 
   still_sound : (d : Deed) (a b : Stand) → is_still d ≡ true → Does d a b → IsSoundFromAt o start a → IsSoundFromAt o start b
@@ -210,7 +210,7 @@ module _ (o : Opening) (start : Start) where
         go Spent on S m = subst (λ (x : Standing). IsSoundFromIn x o start c) (sym m.0) (subst (EndsSoundFromAt o start) (sym m.3) S)
 
 -- a node as it opens
-opens_at : (o : Opening) (core : Held) (stamp : ℕ) → IsStrictlyIncreasing core.world → IsNodeAmong o core
+opens_at : (o : Opening) (core : CoreState) (stamp : ℕ) → IsStrictlyIncreasing core.world → IsNodeAmong o core
     → IsSoundFromAt o (record { node = node_of core; stamp = stamp })
     (record { loop = begun stamp core; end = begun_end core.name core.world })
 opens_at o core stamp rising I = (

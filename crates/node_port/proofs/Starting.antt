@@ -4,7 +4,7 @@ use Rattle.std.specs.Prelude.{not, ◌&&◌}
 use Rattle.std.proofs.lemmas.Bool.{and_from, and_parts, false≢true, not-true}
 use Rattle.term.specs.NodeSets.{set_of}
 use Rattle.term.specs.Nodes.{name_of, creation_of}
-use Rattle.node_loop.specs.NodeCoreHeld.{IsNext}
+use Rattle.node_loop.specs.NodeCoreState.{IsNext}
 use Rattle.wire_end.specs.Starting.{is_alone}
 use Rattle.node_port.specs.Commands.{Follows, Strange, Untold}
 use Rattle.node_port.specs.Deeds.{Stand, IsAllTold}

@@ -5,7 +5,7 @@ use Rattle.command_lines.specs.Commands.{unread}
 use Rattle.term.specs.NodeLists.{SpellsNodeSet}
 use Rattle.term.specs.NodeSets.{set_of, names_in}
 use Rattle.term.specs.Nodes.{name_of, creation_of}
-use Rattle.node_loop.specs.NodeCoreHeld.{Held, fresh_behind}
+use Rattle.node_loop.specs.NodeCoreState.{CoreState, fresh_behind}
 use Rattle.wire_end.specs.Returning.{count_left}
 use Rattle.node_port.specs.Numbers.{SpellsNumber}
 
@@ -67,5 +67,5 @@ world_of node names left = map (present_of node left) names
 
 -- the core of a node that begins so: it is lone, has nothing, and was told of those that have left. That is what a node that comes back is in a
 -- world, too
-abbrev pub core_behind : ℕ → List ℕ → List ℕ → Held
+abbrev pub core_behind : ℕ → List ℕ → List ℕ → CoreState
 core_behind node names left = fresh_behind node (world_of node names left) (node ∷ []) left false

@@ -4,7 +4,7 @@ use Rattle.std.specs.List.{All}
 use Rattle.term.specs.Spelling.{SpellsNode}
 use Rattle.command_lines.specs.Commands.{unread}
 use Rattle.command_lines.specs.Events.{own_event_of}
-use Rattle.command_lines.specs.declared.Event.{Event}
+use Rattle.command_lines.specs.declared.LocalEvent.{LocalEvent}
 use Rattle.command_lines.specs.declared.faults.LineFault.{LineFault}
 use Rattle.letter_lines.specs.Grammar.{TextReads}
 use Rattle.letter_lines.specs.declared.part.Part.{Part}
@@ -83,7 +83,7 @@ pub record AsksUnder (bytes : List ℕ) (tag : ℕ) : Type 0 where
   pub asks : text ≢ codes "steps"
 
 -- this event is, as this node reads it
-pub record AsksFor (reader : Reader) (bytes : List ℕ) (tag : ℕ) (event : Event) : Type 0 where
+pub record AsksFor (reader : Reader) (bytes : List ℕ) (tag : ℕ) (event : LocalEvent) : Type 0 where
   pub text : List ℕ
   pub tagged : IsTagged bytes tag text
   pub asks : text ≢ codes "steps"

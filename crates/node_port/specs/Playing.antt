@@ -1,14 +1,14 @@
 -- What the lines come to that a node reads, one behind the other.
 use Rattle.std.specs.Prelude.{ℕ, Bool, true, false, ◌≡◌, ◌≢◌, map, length, List, [], ◌∷◌, ◌++◌, Some, None, Ok, Err, if◌then◌else◌}
 use Rattle.letter_lines.specs.declared.faults.LetterFault.TheVariants.{Memory}
-use Rattle.node_loop.specs.declared.Event.{Event}
+use Rattle.node_loop.specs.declared.LocalEvent.{LocalEvent}
 use Rattle.node_loop.specs.declared.item.Task.{Task}
 use Rattle.node_loop.specs.Held.{Looping, owes}
 use Rattle.wire_end.specs.declared.faults.HearFault.TheVariants.{Gap, Stray, NoSuchNode, Part}
 use Rattle.wire_end.specs.Hearing.{Hears, Loses}
 use Rattle.wire_end.specs.Starting.{Starts, is_alone}
 use Rattle.node_loop.specs.Held.{with_next}
-use Rattle.node_loop.specs.NodeCoreHeld.{IsNext}
+use Rattle.node_loop.specs.NodeCoreState.{IsNext}
 use Rattle.node_loop.specs.Returning.{MayStart}
 use Rattle.term.specs.NodeSets.{set_of, with_older}
 use Rattle.node_port.specs.Asking.{reader_of}
@@ -22,7 +22,7 @@ use Rattle.node_port.specs.declared.port.Standing.{Standing}
 use Rattle.node_port.specs.declared.port.Standing.TheVariants.{Runs, HasLeft, Broken, Spent}
 
 -- what is asked under a tag
-abbrev pub asked : ℕ → Event → Task
+abbrev pub asked : ℕ → LocalEvent → Task
 asked tag event = record { ticket = Some (record { seat = 0; slot = 0; number = tag }); event = event }
 
 -- a node takes the place of the one before it, of which this one was told that it has left: in its loop, and at its end

@@ -9,7 +9,7 @@ use Rattle.text_lines.specs.Writing.{AppendsPart}
 use Rattle.text_lines.specs.declared.faults.StreamFault.{StreamFault}
 use Rattle.node_loop.specs.declared.edit.Edition.{Edition}
 use Rattle.node_loop.specs.declared.edit.Update.{Update}
-use Rattle.node_loop.specs.NodeCoreHeld.{Held, fresh}
+use Rattle.node_loop.specs.NodeCoreState.{CoreState, fresh}
 use Rattle.node_loop.specs.Returning.{IsByName, IsNodeAmong}
 use Rattle.term.specs.Nodes.{creation_of}
 use Rattle.node_loop.specs.NodeCoreSeen.{node_of}
@@ -73,7 +73,7 @@ NobodyStarts lines = All (λ l. (node : ℕ) → IsStartedLine l node → ⊥) l
 -- from its start on, whatever nodes come back. The lines of its links that were read are among these lines, in their order; they spell what came of each other node, and the lines of letters that were printed are those of the letters that were
 -- sent. The changes that were printed, one behind the other, make of no table the one that the node has. And each answer that was
 -- printed was given by a step of the node's log, with its stamp, and no reply is left that wasn't printed
-pub record IsRun (stamp : ℕ) (core : Held) (lines : List (List ℕ)) (standing : Standing) (out : List Printed) (b : Stand) : Type 0 where
+pub record IsRun (stamp : ℕ) (core : CoreState) (lines : List (List ℕ)) (standing : Standing) (out : List Printed) (b : Stand) : Type 0 where
   pub node : b.end.node ≡ core.name
   pub sound : (o : Opening) → IsNodeOf o core → node_of core ≡ opened o core → NobodyStarts lines → IsSoundIn standing o b
   pub sound_from : (o : Opening) → IsByName o → IsNodeAmong o core
@@ -113,7 +113,7 @@ beginning_of node (Behind b) = b
 beginning_of node Plainly = plain_beginning node
 
 -- as it opens: joined with itself where it founds its cluster; and else lone, and told of those that have left
-abbrev pub core_of : ℕ → List ℕ → Opens → Held
+abbrev pub core_of : ℕ → List ℕ → Opens → CoreState
 core_of node names Founds = fresh node names (node ∷ []) true
 core_of node names how = core_behind node names (beginning_of node how).left
 

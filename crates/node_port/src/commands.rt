@@ -14,7 +14,7 @@ ghost use Rattle.node_port.specs.Commands.{IsCut, HasNoCut, TellsLine, TellsNoLi
 
 use crate::numbers::parse_number;
 use arrayvec::ArrayVec;
-use command_lines::{Event, LineFault, Task, WorldEvent, read_words, text_of};
+use command_lines::{LineCommand, LineFault, LocalEvent, WorldEvent, read_words, text_of};
 use letter_lines::{LetterFault, Part, parts_are_exact, read_part};
 use std::alloc::{AllocError, Global};
 use term::{MOST_WORDS, Node, NodeName, NodeSet, Pid, parse_node, parse_node_set};
@@ -25,7 +25,7 @@ use wire_end::LinkLine;
 #[derive(Drop)]
 pub(crate) enum Command {
     /// The node is asked for an event, and the answer goes under this tag.
-    Ask(u64, Event),
+    Ask(u64, LocalEvent),
     /// It is asked how many steps it has made.
     Steps(u64),
     /// Another node sent this.
@@ -99,7 +99,7 @@ fn begins_with_process(words: &[&str]) -> bool
 }
 
 /// What words ask with the name of a node behind the first, as in a script.
-fn read_call(alloc: Global, words: &[&str], node: &str) -> Result<Task, LineFault>
+fn read_call(alloc: Global, words: &[&str], node: &str) -> Result<LineCommand, LineFault>
     ensures { IfOk result (λ task. WordsAsk (with_node node.now (map (λ word. word.now) words.now)) (Ok (line_in task))) }
 {
     match words {
@@ -112,7 +112,7 @@ fn read_call(alloc: Global, words: &[&str], node: &str) -> Result<Task, LineFaul
 }
 
 /// What words ask, as a line of a script does that asks the node of this name.
-fn read_scripted(alloc: Global, words: &[&str], node: &str) -> Result<Task, LineFault>
+fn read_scripted(alloc: Global, words: &[&str], node: &str) -> Result<LineCommand, LineFault>
     ensures { IfOk result (λ task. AsksAsScript node.now (map (λ word. word.now) words.now) (line_in task)) }
 {
     if begins_call(words) {
@@ -125,19 +125,19 @@ fn read_scripted(alloc: Global, words: &[&str], node: &str) -> Result<Task, Line
 }
 
 /// The event that a line of a script asks a node for.
-fn event_of(task: Task) -> Result<Event, LineFault>
+fn event_of(task: LineCommand) -> Result<LocalEvent, LineFault>
     ensures { IfOk result (λ event. IsAsked (line_in task) (own_event_of event)) }
 {
     match task {
-        Task::Play(WorldEvent::At(_, event)) => Ok(event),
-        Task::At(_, event) => Ok(event),
+        LineCommand::Play(WorldEvent::At(_, event)) => Ok(event),
+        LineCommand::At(_, event) => Ok(event),
         // No line that is read here asks for anything else.
         _ => Err(LineFault::BadLine),
     }
 }
 
 /// What the words behind a tag ask of the node of this name.
-fn read_event(alloc: Global, words: &[&str], node: &str) -> Result<Event, LineFault>
+fn read_event(alloc: Global, words: &[&str], node: &str) -> Result<LocalEvent, LineFault>
     ensures { IfOk result (λ event. WordsAskFor node.now (map (λ word. word.now) words.now) (own_event_of event)) }
 {
     event_of(read_scripted(alloc, words, node)?)
@@ -186,7 +186,7 @@ fn meant_words<'a>(text: &'a str, own: &'a str) -> ArrayVec<&'a str, MOST_WORDS>
 }
 
 /// What the text behind a tag asks of the node of this name, where a process of this text was spawned last.
-fn read_meant(alloc: Global, text: &str, own: &str, node: &str) -> Result<Event, LineFault>
+fn read_meant(alloc: Global, text: &str, own: &str, node: &str) -> Result<LocalEvent, LineFault>
     ensures { IfOk result (λ event. TextAsksFor (record { node = node.now; own = own.now }) text.now (own_event_of event)) }
 {
     read_event(alloc, &meant_words(text, own), node)
@@ -198,7 +198,7 @@ fn read_asked(
     text: &str,
     own: Option<&Pid>,
     node: &NodeName,
-) -> Result<Event, LineFault>
+) -> Result<LocalEvent, LineFault>
     ensures { IfOk result (λ event. TextAsksFor (reads_as node.now (option_copied own.entry)) text.now (own_event_of event)) }
 {
     let own = own_text(alloc, own)?;

@@ -20,7 +20,7 @@ use crate::printing::{
     push_steps, push_stray, push_untold, push_wait,
 };
 use name_table::IndexTable;
-use node_loop::{Event, ForgottenLog, NodeCore, NodeLoop, OpenGate, Task, Ticket, TurnFault};
+use node_loop::{ForgottenLog, LocalEvent, NodeCore, NodeLoop, OpenGate, Task, Ticket, TurnFault};
 use std::alloc::{AllocError, Global};
 use std::io::Write;
 use term::{Node, NodeName, NodeSet, Pid};
@@ -241,7 +241,7 @@ fn standing_of(has_left: bool) -> Standing
 }
 
 /// What is asked under a tag.
-fn task_of(tag: u64, event: Event) -> Task
+fn task_of(tag: u64, event: LocalEvent) -> Task
     ensures { result ≡ asked tag event }
 {
     let ticket = Ticket {
@@ -265,7 +265,7 @@ impl Port {
     ghost use Rattle.node_port.specs.Deeds.{Does, Turn};
     ghost use Rattle.node_port.specs.Edits.{Stood};
     ghost use Rattle.node_port.specs.Playing.{spent, is_waiting, waiting, GivesStart, HasNoPlace};
-    ghost use Rattle.node_loop.specs.NodeCoreHeld.{IsNext};
+    ghost use Rattle.node_loop.specs.NodeCoreState.{IsNext};
     ghost use Rattle.node_loop.specs.Returning.{MayStart};
     ghost use Rattle.wire_end.specs.Starting.{is_alone};
     ghost use Rattle.node_port.specs.Working.{stand_of, Grows, IsEmpty, ShowsAll, GoesOn, ComesTo, Concludes, Settles, RefusesFor, PlaysAt, ShowsStill};
@@ -485,7 +485,7 @@ impl Port {
     }
 
     /// The node is asked for an event.
-    fn ask(&mut self, tag: u64, event: Event) -> Result<Standing, AllocError>
+    fn ask(&mut self, tag: u64, event: LocalEvent) -> Result<Standing, AllocError>
         ensures { IfOk result (λ standing. PlaysAt (Follows (Ask tag event)) standing (spent standing) self.old self.new) }
     {
         self.end.ask(task_of(tag, event))?;

@@ -2,8 +2,8 @@
 use Rattle.std.proofs.Common.{ℕ, true, ◌≡◌, ◌∙◌, Option, Some, Result, Ok, Err, List, [], ◌∷◌, ◌++◌, IfOk, sym, ap, subst}
 use Rattle.shared_table.specs.declared.Answer.{Answer}
 use Rattle.shared_table.specs.declared.Call.{Call}
-use Rattle.shared_table.specs.declared.Event.{Event}
-use Rattle.shared_table.specs.declared.Event.TheVariants.{Call as Calls}
+use Rattle.shared_table.specs.declared.LocalEvent.{LocalEvent}
+use Rattle.shared_table.specs.declared.LocalEvent.TheVariants.{Call as Calls}
 use Rattle.shared_table.specs.declared.WorldEvent.{WorldEvent}
 use Rattle.shared_table.specs.declared.WorldEvent.TheVariants.{At}
 use Rattle.shared_table.specs.declared.SeatEntry.{SeatEntry}
@@ -27,7 +27,7 @@ use Rattle.node_seats.specs.Seats.{Sitting, sitting, IsAnswered, KeepsNoList, wi
 abbrev pub seated : Caller → List SeatEntry → Option ℕ → Sitting
 seated c es granted = record (sitting c es) { granted = granted }
 
-abbrev sits : Place → Inbox → List ℕ → List Event → Seen → Option ℕ → List SeatEntry → Sitting
+abbrev sits : Place → Inbox → List ℕ → List LocalEvent → Seen → Option ℕ → List SeatEntry → Sitting
 sits place inbox nodes asked seen granted es = record {
   seat = place.seat;
   slot = place.slot;
@@ -53,14 +53,14 @@ module _ (c : Caller) (es : List SeatEntry) (granted : Option ℕ) (s : Sitting)
   })
 
   -- it asked for an event, and has an entry more
-  pub grown : (d : Caller) (fs : List SeatEntry) (e : Event) (w : WorldEvent) (answer : Option Answer) → place_of d ≡ place_of c
+  pub grown : (d : Caller) (fs : List SeatEntry) (e : LocalEvent) (w : WorldEvent) (answer : Option Answer) → place_of d ≡ place_of c
       → inbox_of d ≡ inbox_of c → nodes_of d ≡ nodes_of c → asked_by d ≡ asked_by c ++ e ∷ [] → w ≡ At (name_of c) e
       → fs ≡ es ++ record { event = w; answer = answer } ∷ [] → seated d fs granted ≡ record (with_entry e answer s) { seen = seen_of d }
   grown d fs e w answer place inbox nodes asked at more = subst (λ (x : Sitting). seated d fs granted ≡ record (with_entry e answer x) { seen = seen_of d }) is
       (ap (λ (i : Place). sits i (inbox_of d) (nodes_of d) (asked_by d) (seen_of d) granted fs) place
       ∙ ap (λ (i : Inbox). sits (place_of c) i (nodes_of d) (asked_by d) (seen_of d) granted fs) inbox
       ∙ ap (λ (ns : List ℕ). sits (place_of c) (inbox_of c) ns (asked_by d) (seen_of d) granted fs) nodes
-      ∙ ap (λ (l : List Event). sits (place_of c) (inbox_of c) (nodes_of c) l (seen_of d) granted fs) asked
+      ∙ ap (λ (l : List LocalEvent). sits (place_of c) (inbox_of c) (nodes_of c) l (seen_of d) granted fs) asked
       ∙ ap (λ (l : List SeatEntry). sits (place_of c) (inbox_of c) (nodes_of c) (asked_by c ++ e ∷ []) (seen_of d) granted l)
       (more ∙ ap (λ (v : WorldEvent). es ++ record { event = v; answer = answer } ∷ []) at))
 
@@ -88,7 +88,7 @@ module _ (c : Caller) (es : List SeatEntry) (granted : Option ℕ) (s : Sitting)
         (ap (λ (i : Place). sits i (inbox_of d) (nodes_of d) (asked_by d) (seen_of d) granted fs) place
         ∙ ap (λ (i : Inbox). sits (place_of c) i (nodes_of d) (asked_by d) (seen_of d) granted fs) inbox
         ∙ ap (λ (ns : List ℕ). sits (place_of c) (inbox_of c) ns (asked_by d) (seen_of d) granted fs) nodes
-        ∙ ap (λ (l : List Event). sits (place_of c) (inbox_of c) (nodes_of c) l (seen_of d) granted fs) asked
+        ∙ ap (λ (l : List LocalEvent). sits (place_of c) (inbox_of c) (nodes_of c) l (seen_of d) granted fs) asked
         ∙ ap (λ (l : List SeatEntry). sits (place_of c) (inbox_of c) (nodes_of c) (asked_by c ++ Calls call ∷ []) (seen_of d) granted l) same);
   }
 

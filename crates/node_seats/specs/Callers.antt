@@ -1,7 +1,7 @@
 -- What contracts see of a caller, and of the hub that it shares.
 use Rattle.std.specs.Prelude.{ℕ, ◌+◌, ◌≡◌, ◌≤◌, ◌⊎◌, Option, Some, None, List}
 use mathlib.Core.List.{IsPrefix}
-use Rattle.shared_table.specs.declared.Event.{Event}
+use Rattle.shared_table.specs.declared.LocalEvent.{LocalEvent}
 use Rattle.shared_table.specs.declared.Ticket.{Ticket}
 use Rattle.shared_table.specs.declared.Item.{Item}
 use Rattle.shared_table.specs.declared.Item.TheVariants.{Task}
@@ -58,7 +58,7 @@ abbrev pub Learns : Seen → Seen → Type 0
 Learns s t = (t ≡ s) ⊎ LearnsMore s t
 
 -- the events that it has put into its node's inbox, the oldest first
-abbrev pub asked_by : Caller → List Event
+abbrev pub asked_by : Caller → List LocalEvent
 asked_by c = events_on c.line
 
 -- the ticket of the next event that it asks for
@@ -66,7 +66,7 @@ abbrev pub ticket_of : Caller → Ticket
 ticket_of c = record { seat = c.place.seat; slot = c.place.slot; number = c.next }
 
 -- the task by which it asks for an event
-abbrev pub task_for : Caller → Event → Item
+abbrev pub task_for : Caller → LocalEvent → Item
 task_for c e = Task (record { ticket = Some (ticket_of c); event = e })
 
 -- its next event has the next number

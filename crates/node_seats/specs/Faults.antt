@@ -1,6 +1,6 @@
 -- Why a seat isn't made, or what it asks isn't done.
 use Rattle.std.specs.Prelude.{Bool, true, false, ◌≡◌, ◌⊎◌, Option, Some, None, Result, Ok, Err, List, [], ◌∷◌, ◌++◌}
-use Rattle.shared_table.specs.declared.Event.{Event}
+use Rattle.shared_table.specs.declared.LocalEvent.{LocalEvent}
 use Rattle.shared_table.specs.declared.TaskFault.{TaskFault}
 use Rattle.shared_table.specs.declared.TaskFault.TheVariants as of_task
 use Rattle.node_seats.specs.declared.fault.SeatFault.{SeatFault}
@@ -25,7 +25,7 @@ IsAskRefused _ known = Unit {0}
 
 -- What the node was asked for where an event comes to this: for it once where the node refused it itself, for nothing where its contact is
 -- a stranger, and for it once or for nothing where no reply comes any more. To nothing else it comes where memory was there for it
-abbrev pub MayAsk : SeatFault → Event → List Event → List Event → Type 0
+abbrev pub MayAsk : SeatFault → LocalEvent → List LocalEvent → List LocalEvent → Type 0
 MayAsk NoSuchNode e before after = after ≡ before
 MayAsk (Step fault) e before after = after ≡ before ++ e ∷ []
 MayAsk NodeLeft e before after = (after ≡ before) ⊎ (after ≡ before ++ e ∷ [])

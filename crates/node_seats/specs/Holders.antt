@@ -5,7 +5,7 @@ use Rattle.shared_table.specs.declared.Answer.{Answer}
 use Rattle.shared_table.specs.declared.Call.{Call}
 use Rattle.shared_table.specs.declared.Call.TheVariants.{SetLock, DelLock}
 use Rattle.shared_table.specs.NodeEventsSeen.{reply_of}
-use Rattle.shared_table.specs.declared.Event.TheVariants.{Call as Calls}
+use Rattle.shared_table.specs.declared.LocalEvent.TheVariants.{Call as Calls}
 use Rattle.shared_table.specs.declared.WorldEvent.{WorldEvent}
 use Rattle.shared_table.specs.declared.WorldEvent.TheVariants.{At}
 use Rattle.shared_table.specs.declared.SeatEntry.{SeatEntry}

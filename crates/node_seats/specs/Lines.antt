@@ -2,7 +2,7 @@
 use Rattle.std.specs.Prelude.{ℕ, Bool, ◌==◌, Option, is_some, List, [], ◌∷◌, ◌++◌, if◌then◌else◌}
 use Rattle.std.specs.List.{flat_map, position}
 use Rattle.link.specs.Mailboxes.{Room}
-use Rattle.shared_table.specs.declared.Event.{Event}
+use Rattle.shared_table.specs.declared.LocalEvent.{LocalEvent}
 use Rattle.shared_table.specs.declared.Item.{Item}
 use Rattle.shared_table.specs.declared.Item.TheVariants.{Letter, Task}
 use Rattle.node_seats.specs.declared.parcel.Parcel.{Parcel}
@@ -34,10 +34,10 @@ module _ {L : Type 0} where
       if line.receiver == to then with_parcel item line ∷ lines else line ∷ with_parcel_to to item lines
 
 -- the event that an item asks for, if it is a task
-abbrev pub event_in : Item → List Event
+abbrev pub event_in : Item → List LocalEvent
 event_in (Letter l) = []
 event_in (Task t) = t.event ∷ []
 
 -- the events that were asked for on a line, the oldest first
-abbrev pub events_on : Sent Item → List Event
+abbrev pub events_on : Sent Item → List LocalEvent
 events_on line = flat_map (λ p. event_in p.item) line.parcels

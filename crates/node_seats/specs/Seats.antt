@@ -8,8 +8,8 @@ use Rattle.shared_table.specs.declared.Reply.{Reply}
 use Rattle.shared_table.specs.declared.Reply.TheVariants.{Pid, Undefined}
 use Rattle.shared_table.specs.NodeEventsSeen.{answer_of, reply_of, is_list}
 use Rattle.registry_model.specs.Process.{Process, Text}
-use Rattle.shared_table.specs.declared.Event.{Event}
-use Rattle.shared_table.specs.declared.Event.TheVariants as event
+use Rattle.shared_table.specs.declared.LocalEvent.{LocalEvent}
+use Rattle.shared_table.specs.declared.LocalEvent.TheVariants as event
 use Rattle.shared_table.specs.declared.WorldEvent.TheVariants.{At}
 use Rattle.shared_table.specs.declared.SeatEntry.{SeatEntry}
 use Rattle.shared_table.specs.Events.{knows_contact}
@@ -46,7 +46,7 @@ pub record Sitting : Type 0 where
   pub node : ℕ
   pub room : Room (Parcel Item)
   pub nodes : List ℕ
-  pub asked : List Event
+  pub asked : List LocalEvent
   pub seen : Seen
   pub granted : Option ℕ  -- the stamp of the step that granted it a lock last
   pub entries : List SeatEntry
@@ -84,7 +84,7 @@ abbrev pub first_at : ℕ → List Sitting → Option Sitting
 first_at name seats = find (λ s. s.node == name) seats
 
 -- the node was asked for this event, once; the transcript ends with it, and with what was answered
-abbrev pub with_entry : Event → Option Answer → Sitting → Sitting
+abbrev pub with_entry : LocalEvent → Option Answer → Sitting → Sitting
 with_entry e answer s = record s {
   asked = s.asked ++ e ∷ [];
   entries = s.entries ++ record { event = At s.node e; answer = answer } ∷ [];
@@ -104,13 +104,13 @@ IsToldFault s (Step fault) t = IsAnswered s (Err (task.Step fault)) t
 IsToldFault s _ t = Learns s.seen t.seen
 
 -- an event comes to this fault: the node was asked for it once at most, and the transcript is as it was
-pub record IsRefused (fault : SeatFault) (e : Event) (s t : Sitting) : Type 0 where
+pub record IsRefused (fault : SeatFault) (e : LocalEvent) (s t : Sitting) : Type 0 where
   pub asked : MayAsk fault e s.asked t.asked
   pub kept : t ≡ record s { asked = t.asked; seen = t.seen }
   pub told : IsToldFault s fault t
 
 -- nothing was asked, and nothing has changed: there was no memory for it, and its contact, if it has one, is of the cluster
-abbrev pub IsUnasked : Event → Sitting → Sitting → Type 0
+abbrev pub IsUnasked : LocalEvent → Sitting → Sitting → Type 0
 IsUnasked e s t = (t ≡ s) × (knows_contact s.nodes e ≡ true)
 
 -- the node was asked for a call, once, and its loop told the seat an answer. That is a list, for whose copy there was no memory, and the
@@ -123,19 +123,19 @@ pub record KeepsNoList (call : Call) (s t : Sitting) : Type 0 where
   pub kept : t ≡ record s { asked = s.asked ++ event.Call call ∷ []; seen = t.seen }
 
 -- that comes of calls alone
-abbrev pub IsUncopied : Event → Sitting → Sitting → Type 0
+abbrev pub IsUncopied : LocalEvent → Sitting → Sitting → Type 0
 IsUncopied (event.Call call) s t = KeepsNoList call s t
 IsUncopied _ s t = ⊥
 
 -- Why an event has no answer. Memory was refused before anything was asked, or to the copy of a reply; and a seat that was made isn't
 -- refused for want of seats
-abbrev pub Unanswered : SeatFault → Event → Sitting → Sitting → Type 0
+abbrev pub Unanswered : SeatFault → LocalEvent → Sitting → Sitting → Type 0
 Unanswered Memory e s t = IsUnasked e s t ⊎ IsUncopied e s t
 Unanswered SeatsSpent e s t = ⊥
 Unanswered fault e s t = IsRefused fault e s t
 
 -- an event that has no answer is done: its node's loop told the seat that it came to this, and it stands last in the transcript
-pub record Done (e : Event) (effect : Effect) (s t : Sitting) : Type 0 where
+pub record Done (e : LocalEvent) (effect : Effect) (s t : Sitting) : Type 0 where
   pub told : IsAnswered s (Ok effect) t
   pub kept : t ≡ record (with_entry e None s) { seen = t.seen }
 

@@ -4,7 +4,7 @@ ghost use Rattle.link.specs.Rule.{Begins, of};
 ghost use Rattle.link.specs.Mailboxes.{made_of, taken, root_room, mailbox_room};
 
 use crate::bell::{Bell, Rest};
-use crate::line::Line;
+use crate::inbox_line::InboxLine;
 use crate::parcel::Parcel;
 use crate::slots::{Slot, Slots};
 use link::{Mailbox, Root, compare, open};
@@ -75,7 +75,7 @@ impl<L: Drop> Address<L> {
     }
 
     /// A line more into the inbox, on which nothing was put. Its sender's number is how many were made before.
-    pub fn line(&mut self) -> Result<Line<L>, AllocError>
+    pub fn line(&mut self) -> Result<InboxLine<L>, AllocError>
         ensures ok { IfOk result (λ line. line ≡ record { receiver = self.old.node; number = self.old.lines; room = self.old.room; parcels = [] }) }
         ensures more { OnOk result (self.new ≡ record self.old { lines = self.old.lines + 1 }) }
         ensures err { OnErr result (self.new ≡ self.old) }
@@ -86,7 +86,7 @@ impl<L: Drop> Address<L> {
         }
         let bell = self.bell.another()?;
         let port = self.root.port()?;
-        Ok(Line::new(self.node.copy(), port, bell))
+        Ok(InboxLine::new(self.node.copy(), port, bell))
     }
 
     /// A way to the slot of this number.
@@ -99,7 +99,7 @@ impl<L: Drop> Address<L> {
 
     /// Holds what was taken from the inbox against what was put on a line into it: of what came under the line's number, a beginning of
     /// that was taken.
-    pub fn compare(&self, mailbox: &mut Mailbox<Parcel<L>>, line: Line<L>)
+    pub fn compare(&self, mailbox: &mut Mailbox<Parcel<L>>, line: InboxLine<L>)
         requires mailbox { mailbox_room mailbox.old ≡ self.now.room }
         requires line { line.room ≡ self.now.room }
         ensures begins { Begins (of (λ parcel. parcel.number) line.number (taken mailbox.old)) line.parcels }

@@ -2,7 +2,7 @@
 ghost use Rattle.std.specs.Prelude.{◌≡◌, ◌++◌, ◌∷◌, [], false, IfOk, OnOk, IfErr, Ok, Err};
 ghost use Rattle.shared_table.specs.Events.{knows_contact as knows};
 ghost use Rattle.shared_table.specs.NodeEventsSeen.{answer_of};
-ghost use Rattle.shared_table.specs.declared.Event.TheVariants.{Call as Calls, Exit, Leave};
+ghost use Rattle.shared_table.specs.declared.LocalEvent.TheVariants.{Call as Calls, Exit, Leave};
 ghost use Rattle.shared_table.specs.declared.Effect.TheVariants.{Answered, Made, Left};
 ghost use Rattle.node_seats.specs.Callers.{name_of, inbox_of, place_of, nodes_of, asked_by, seen_of, ticket_of, task_for, Puts, Learns};
 ghost use Rattle.node_seats.specs.declared.fault.SeatFault.TheVariants.{NoSuchNode};
@@ -12,7 +12,7 @@ ghost use Rattle.node_seats.specs.Replies.{IsToldTo, IsFaultTold, HasLeft};
 
 use crate::caller::Caller;
 use crate::fault::SeatFault;
-use shared_table::{Answer, Call, Effect, Event};
+use shared_table::{Answer, Call, Effect, LocalEvent};
 use std::sync::Wait;
 use std::time::Clock;
 use term::Pid;
@@ -41,7 +41,7 @@ impl Caller {
         ensures refused { IfErr result (λ fault. IsFaultTold (name_of self.old) (ticket_of self.old) fault (seen_of self.new)) }
         ensures learns { Learns (seen_of self.old) (seen_of self.new) }
     {
-        match self.ask(rt, Event::Call(call))? {
+        match self.ask(rt, LocalEvent::Call(call))? {
             Effect::Answered(stamp, answer) => Ok(Given { stamp, answer }),
             // No call comes to anything else.
             _ => Err(SeatFault::Closed),
@@ -60,7 +60,7 @@ impl Caller {
         ensures refused { IfErr result (λ fault. IsFaultTold (name_of self.old) (ticket_of self.old) fault (seen_of self.new)) }
         ensures learns { Learns (seen_of self.old) (seen_of self.new) }
     {
-        match self.ask(rt, Event::Exit(process.copy()))? {
+        match self.ask(rt, LocalEvent::Exit(process.copy()))? {
             Effect::Made => Ok(()),
             // No exit comes to anything else.
             _ => Err(SeatFault::Closed),
@@ -81,7 +81,7 @@ impl Caller {
         ensures refused { IfErr result (λ fault. IsFaultTold (name_of self.old) (ticket_of self.old) fault (seen_of self.new)) }
         ensures learns { Learns (seen_of self.old) (seen_of self.new) }
     {
-        match self.ask(rt, Event::Leave)? {
+        match self.ask(rt, LocalEvent::Leave)? {
             Effect::Left => Ok(()),
             // No leave comes to anything else.
             _ => Err(SeatFault::Closed),

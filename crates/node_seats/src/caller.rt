@@ -2,7 +2,7 @@
 ghost use Rattle.std.specs.Prelude.{◌≡◌, ◌<◌, ◌≤◌, ◌+◌, ◌^◌, ◌++◌, ◌∷◌, ◌⊎◌, [], length, max, true, false, IfOk, OnOk, OnErr, IfErr, IfSome, IfNone, Ok, Err};
 ghost use Rattle.shared_table.specs.Readers.{Finds, unseen};
 ghost use Rattle.shared_table.specs.Events.{knows_contact as knows};
-ghost use Rattle.shared_table.specs.declared.Event.TheVariants.{Call as Calls};
+ghost use Rattle.shared_table.specs.declared.LocalEvent.TheVariants.{Call as Calls};
 ghost use Rattle.node_seats.specs.Addresses.{inbox_at};
 ghost use Rattle.node_seats.specs.Lines.{event_in, events_on};
 ghost use Rattle.node_seats.specs.declared.fault.SeatFault.TheVariants.{NoSuchNode};
@@ -13,15 +13,15 @@ use crate::address::Address;
 use crate::bell::Rest;
 use crate::fault::SeatFault;
 use crate::hub::Hub;
+use crate::inbox_line::InboxLine;
 use crate::knowledge::Knowledge;
 use crate::laid::Heard;
-use crate::line::Line;
 use crate::place::Place;
 use crate::slots::Slot;
 use crate::standing::Standing;
 use crate::told::NodeStatus;
 use shared_table::{
-    Call, Effect, Event, Item, Lookup, TableReader, Task, TaskFault, Ticket, Token,
+    Call, Effect, Item, LocalEvent, Lookup, TableReader, Task, TaskFault, Ticket, Token,
 };
 use std::alloc::{AllocError, Global};
 use std::sync::{Arc, Wait};
@@ -36,7 +36,7 @@ pub struct Caller {
     /// Which seat's it is, or which of the cluster's own, and the slot of its replies.
     place: Place,
     node: Node,
-    line: Line<Item>,
+    line: InboxLine<Item>,
     /// The number of its next event: how many it has asked for.
     next: u64,
     hub: Arc<Hub, Global>,
@@ -198,7 +198,7 @@ impl Caller {
     /// cluster is refused at once, also where the node has left. What came of it, and what the node refuses, its loop told this caller for
     /// this event; where no reply comes any more the event may have been asked for. Its number is above those of all that the caller put
     /// before, since numbers never fall, and rise behind each event that is put.
-    pub fn ask<R: Wait + Clock>(&mut self, rt: &R, event: Event) -> Result<Effect, SeatFault>
+    pub fn ask<R: Wait + Clock>(&mut self, rt: &R, event: LocalEvent) -> Result<Effect, SeatFault>
         ensures place { place_of self.new ≡ place_of self.old }
         ensures node { name_of self.new ≡ name_of self.old }
         ensures nodes { nodes_of self.new ≡ nodes_of self.old }
@@ -222,7 +222,7 @@ impl Caller {
     }
 
     /// Asks the node for an event, whose contact is of the cluster.
-    fn ask_node<R: Wait + Clock>(&mut self, rt: &R, event: Event) -> Result<Effect, SeatFault>
+    fn ask_node<R: Wait + Clock>(&mut self, rt: &R, event: LocalEvent) -> Result<Effect, SeatFault>
         ensures place { place_of self.new ≡ place_of self.old }
         ensures node { name_of self.new ≡ name_of self.old }
         ensures nodes { nodes_of self.new ≡ nodes_of self.old }

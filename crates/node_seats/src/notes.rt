@@ -2,7 +2,7 @@
 ghost use Rattle.std.specs.Prelude.{◌≡◌, Bool, List, [], ◌∷◌, ◌++◌, true, OnOk};
 ghost use Rattle.shared_table.specs.declared.SeatEntry.{SeatEntry as AnyEntry};
 
-use past::Log as History;
+use past::Trace as History;
 use shared_table::SeatEntry;
 use std::alloc::{AllocError, Global};
 

@@ -2,7 +2,7 @@
 ghost use Rattle.std.specs.Prelude.{◌≡◌, [], true, false, OnOk, IfOk, IfErr, Err};
 ghost use Rattle.std.specs.Option.{ForSome};
 ghost use Rattle.shared_table.specs.Events.{knows_contact as knows};
-ghost use Rattle.shared_table.specs.declared.Event.TheVariants.{Exit, Leave, Call as Calls};
+ghost use Rattle.shared_table.specs.declared.LocalEvent.TheVariants.{Exit, Leave, Call as Calls};
 ghost use Rattle.shared_table.specs.declared.WorldEvent.TheVariants.{At};
 ghost use Rattle.shared_table.specs.declared.Effect.TheVariants.{Made, Left};
 ghost use Rattle.node_seats.specs.Seats.{sitting, Answered, Unanswered, Done, LooksUp};
@@ -21,7 +21,7 @@ use crate::fences::{fence_of, granted_after, sets_lock};
 use crate::knowledge::Knowledge;
 use crate::notes::{KeptNotes, Notes};
 use crate::told::NodeStatus;
-use shared_table::{Call, Event, Reply, SeatEntry, Token, Transcript, WorldEvent};
+use shared_table::{Call, LocalEvent, Reply, SeatEntry, Token, Transcript, WorldEvent};
 use std::alloc::{AllocError, Global};
 use std::marker::Model;
 use std::sync::Wait;
@@ -147,7 +147,7 @@ impl<T: Notes> Seat<T> {
     {
         let sets = sets_lock(&call);
         let noted = prepared(&mut self.notes, &self.caller, &call)?;
-        let event = self.event(Event::Call(noted));
+        let event = self.event(LocalEvent::Call(noted));
         let given = self.caller.call(rt, call)?;
         let reply = given.answer.reply.copy()?;
         self.granted = granted_after(sets, &given, self.granted);
@@ -195,7 +195,7 @@ impl<T: Notes> Seat<T> {
     {
         make_room(&mut self.notes, &self.caller)?;
         self.caller.exit(rt, process)?;
-        let event = self.event(Event::Exit(process.copy()));
+        let event = self.event(LocalEvent::Exit(process.copy()));
         let answer = None;
         self.notes.put(SeatEntry { event, answer });
         Ok(())
@@ -210,7 +210,7 @@ impl<T: Notes> Seat<T> {
     {
         make_room(&mut self.notes, &self.caller)?;
         self.caller.leave(rt)?;
-        let event = self.event(Event::Leave);
+        let event = self.event(LocalEvent::Leave);
         let answer = None;
         self.notes.put(SeatEntry { event, answer });
         Ok(())
@@ -233,7 +233,7 @@ impl<T: Notes> Seat<T> {
     }
 
     /// An event of the seat's node.
-    fn event(&self, event: Event) -> WorldEvent
+    fn event(&self, event: LocalEvent) -> WorldEvent
         ensures { result ≡ At self.now.node event }
     {
         WorldEvent::At(self.caller.node().copy(), event)

@@ -8,7 +8,7 @@ use Rattle.node_loop.specs.Turned.{Took, Missed, Turned}
 use Rattle.node_loop.proofs.Moving.{turn_of}
 use Rattle.node_loop.specs.Steps.{Outcome}
 use Rattle.node_loop.specs.Coming.{begun, IsLoopOf}
-use Rattle.node_loop.specs.NodeCoreHeld.{Held}
+use Rattle.node_loop.specs.NodeCoreState.{CoreState}
 use Rattle.node_loop.specs.Openings.{opening_core}
 use Rattle.node_threads.specs.Stops.{CameTo}
 
@@ -40,7 +40,7 @@ module _ {S : Type 0} (posts : S → ℕ → Item → S → Type 0) (refused : S
       at_end (inr missed) = inr missed.idles
 
 -- it begins with the core that its node opens with
-pub comes_first : (nodes cluster : List ℕ) (name stamp : ℕ) (core : Held) (b : Looping) → b ≡ begun stamp core
+pub comes_first : (nodes cluster : List ℕ) (name stamp : ℕ) (core : CoreState) (b : Looping) → b ≡ begun stamp core
     → core ≡ opening_core nodes cluster name → IsLoopOf name b
 comes_first nodes cluster name stamp core b is opens = record {
   nodes = nodes;

@@ -12,7 +12,7 @@ use Rattle.protocol_model.specs.Node.{opening_node}
 use Rattle.protocol_model.specs.World.{Opening, in_world, in_cluster}
 use Rattle.term.specs.NodeSets.{set_of}
 use Rattle.term.proofs.NodePlaces.{place-Some}
-use Rattle.link.specs.Held.{place}
+use Rattle.link.specs.MeshState.{place}
 use Rattle.link.specs.Rule.{Begins}
 use Rattle.node_loop.specs.Openings.{repeats, opening_with}
 use Rattle.node_loop.specs.declared.item.Item.{Item}

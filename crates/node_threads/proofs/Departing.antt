@@ -1,7 +1,7 @@
 -- A leave that was asked of a node in the name of its cluster.
 use Rattle.std.proofs.Common.{ℕ, ◌≡◌, ◌∙◌, ap, subst}
 use Rattle.std.specs.Prelude.{Result, Ok, Err, OnOk}
-use Rattle.node_loop.specs.declared.Event.TheVariants.{Leave}
+use Rattle.node_loop.specs.declared.LocalEvent.TheVariants.{Leave}
 use Rattle.node_loop.specs.declared.replies.Effect.TheVariants.{Left}
 use Rattle.node_seats.specs.declared.caller.Caller.{Caller}
 use Rattle.node_seats.specs.declared.fault.SeatFault.{SeatFault}

@@ -18,7 +18,7 @@ use Rattle.term.specs.NodeSets.{set_of}
 use Rattle.term.specs.declared.limits.TheConstants.{MOST_NODES}
 use Rattle.term.proofs.Subsets.{set_of-append}
 use Rattle.node_loop.specs.declared.StartFault.TheVariants.{SameNode, TooManyNodes}
-use Rattle.node_loop.specs.NodeCoreHeld.{Held, bound_of, fresh}
+use Rattle.node_loop.specs.NodeCoreState.{CoreState, bound_of, fresh}
 use Rattle.node_loop.specs.NodeCoreSeen.{node_of}
 use Rattle.node_loop.specs.Openings.{Opened, repeats, start_refused, opening_with, opening_core, IsOpening}
 use Rattle.node_loop.specs.Sound.{IsNodeOf, opened}
@@ -126,17 +126,17 @@ module _ (cluster lone : List ℕ) (o : Opened) (is : IsOpening cluster lone o) 
   joined_within : (c : ℕ) → set_of o.cluster c ≡ true → set_of o.nodes c ≡ true
   joined_within c e = is.nodes c ∙ set_of-append cluster lone c ∙ ap (λ (b : Bool). b || set_of lone c) (sym (is.joined c) ∙ e)
 
-  abbrev core_at : ℕ → Held
+  abbrev core_at : ℕ → CoreState
   core_at a = opening_core o.nodes o.cluster a
 
   opens_one : All IsFirst o.nodes → (w : Wired) → set_of (cluster ++ lone) (name_of w) ≡ true → w.core ≡ core_at (name_of w)
       → Opens cluster lone w
   opens_one first w known core = record {
-    name = ap (λ (h : Held). h.name) core ∙ opens_name o.nodes o.cluster (name_of w);
+    name = ap (λ (h : CoreState). h.name) core ∙ opens_name o.nodes o.cluster (name_of w);
     of = subst (IsNodeOf (opening_with (cluster ++ lone) cluster)) (sym core)
         (subst (λ (p : AnyOpening). IsNodeOf p (core_at (name_of w))) (opening_same cluster lone o is)
         (of_world o.nodes o.cluster first (name_of w) (is.nodes (name_of w) ∙ known)));
-    node = subst (λ (h : Held). node_of h ≡ opened (opening_with (cluster ++ lone) cluster) h) (sym core)
+    node = subst (λ (h : CoreState). node_of h ≡ opened (opening_with (cluster ++ lone) cluster) h) (sym core)
         (subst (λ (p : AnyOpening). node_of (core_at (name_of w)) ≡ opened p (core_at (name_of w))) (opening_same cluster lone o is)
         (as_opened o.nodes o.cluster joined_within (name_of w)));
   }

@@ -4,7 +4,7 @@ use Rattle.std.specs.Prelude.{nat_lt}
 use Rattle.std.proofs.lemmas.List.{length-map}
 use Rattle.std.specs.List.{position, prefix_len}
 use Rattle.term.specs.NodeSets.{set_of}
-use Rattle.link.specs.Held.{place}
+use Rattle.link.specs.MeshState.{place}
 use Rattle.replay.proofs.Listed.{known_place, no_place}
 
 module _ {X : Type 0} (node : X → ℕ) where

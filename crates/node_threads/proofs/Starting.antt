@@ -2,7 +2,7 @@
 use Rattle.std.proofs.Common.{ℕ, ◌≡◌, Bool, true, false, List, [], ◌∷◌, refl, inl, le_refl, ap, sym, subst, ◌∙◌}
 use Rattle.std.specs.Prelude.{if◌then◌else◌}
 use Rattle.term.specs.NodeSets.{set_of}
-use Rattle.node_loop.specs.NodeCoreHeld.{Held, fresh}
+use Rattle.node_loop.specs.NodeCoreState.{CoreState, fresh}
 use Rattle.node_loop.specs.Openings.{opening_core}
 use Rattle.node_loop.specs.Coming.{begun}
 use Rattle.node_loop.specs.Editions.{opening}
@@ -32,17 +32,17 @@ use Rattle.node_threads.proofs.Dealing.{deals_nothing}
 use Rattle.node_threads.proofs.Stopping.{named}
 
 -- what readers are shown of a node that took no step
-pub opens_so : (nodes cluster : List ℕ) (a : Looping) (name stamp : ℕ) (core : Held) → a ≡ begun stamp core → core ≡ opening_core nodes cluster name
+pub opens_so : (nodes cluster : List ℕ) (a : Looping) (name stamp : ℕ) (core : CoreState) → a ≡ begun stamp core → core ≡ opening_core nodes cluster name
     → shown_by a ≡ opening a.log.node
 opens_so nodes cluster a name stamp core is opens = subst (λ (x : Looping). shown_by x ≡ opening x.log.node) (sym is)
-    (λ j. record { node = core.name; table = (ap (λ (h : Held). h.table) opens ∙ empty (set_of cluster name)) j; length = 0; left = false })
+    (λ j. record { node = core.name; table = (ap (λ (h : CoreState). h.table) opens ∙ empty (set_of cluster name)) j; length = 0; left = false })
   where
     empty : (b : Bool) → (if b then fresh name nodes cluster true else fresh name nodes (name ∷ []) false).table ≡ []
     empty true = refl
     empty false = refl
 
 -- nothing is owed to them
-pub publishes_first : (a : Looping) (p : Progress) (stamp : ℕ) (core : Held) → a ≡ begun stamp core → p.known.log ≡ moment false a ∷ []
+pub publishes_first : (a : Looping) (p : Progress) (stamp : ℕ) (core : CoreState) → a ≡ begun stamp core → p.known.log ≡ moment false a ∷ []
     → Publishes a p
 publishes_first a p stamp core is first = subst (λ (ms : List Moment). Follows ms a × Owes a (shown_at ms)) (sym first) (
   (comes_from_itself a, inl refl),

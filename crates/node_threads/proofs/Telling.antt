@@ -16,9 +16,9 @@ use Rattle.closing_runs.proofs.Playing.{consistent_ends_have_a_run}
 use Rattle.replay.proofs.Theorem.{agreement}
 use Rattle.replay.proofs.ClientLocks.{client_locks}
 use Rattle.replay.proofs.Nothing.{nothing_is_left}
-use Rattle.node_loop.specs.NodeCoreHeld.{bound_of}
+use Rattle.node_loop.specs.NodeCoreState.{bound_of}
 use Rattle.node_loop.specs.Openings.{opening_with, repeats}
-use Rattle.replay.specs.Entries.{Entry, Logged}
+use Rattle.replay.specs.Entries.{SeatedEntry, Logged}
 use Rattle.replay.specs.Seen.{seen_entry}
 use Rattle.replay.specs.Ends.{End, logs_of}
 use Rattle.replay.specs.Consistent.{AreConsistent, seen_logs}
@@ -87,10 +87,10 @@ abbrev steps_at : List Logged → ℕ → ℕ
 steps_at ls a = length (seen_logs ls a)
 
 at_own : (l : Logged) (ls : List Logged) (a : ℕ) → l.node ≡ a → steps_at (l ∷ ls) a ≡ length l.entries
-at_own l ls a e = ap (λ (es : List Entry). length (map seen_entry es)) (own_log l ls a e) ∙ length-map l.entries seen_entry
+at_own l ls a e = ap (λ (es : List SeatedEntry). length (map seen_entry es)) (own_log l ls a e) ∙ length-map l.entries seen_entry
 
 at_other : (l : Logged) (ls : List Logged) (a : ℕ) → (l.node ≡ a → ⊥) → steps_at (l ∷ ls) a ≡ steps_at ls a
-at_other l ls a ne = ap (λ (es : List Entry). length (map seen_entry es)) (other_log l ls a ne)
+at_other l ls a ne = ap (λ (es : List SeatedEntry). length (map seen_entry es)) (other_log l ls a ne)
 
 -- where nobody has a log there are none
 none_below : (n : ℕ) → steps_below (seen_logs []) n ≡ 0

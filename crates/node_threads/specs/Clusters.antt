@@ -1,6 +1,6 @@
 -- What contracts see of a cluster.
 use Rattle.std.specs.Prelude.{ℕ, Bool, true, false, ◌≡◌, Some, Ok, List, ◌++◌, map}
-use Rattle.node_loop.specs.declared.Event.TheVariants.{Leave}
+use Rattle.node_loop.specs.declared.LocalEvent.TheVariants.{Leave}
 use Rattle.node_loop.specs.declared.replies.Effect.TheVariants.{Left}
 use Rattle.node_seats.specs.declared.caller.Caller.{Caller}
 use Rattle.node_seats.specs.declared.fault.SeatFault.{SeatFault}

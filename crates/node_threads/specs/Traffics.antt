@@ -8,8 +8,8 @@ use Rattle.link.specs.declared.mailbox.Mailbox.{Mailbox}
 use Rattle.link.specs.Mailboxes.{taken}
 use Rattle.node_loop.specs.declared.Call.{Call}
 use Rattle.node_loop.specs.declared.Call.TheVariants.{Spawn, Whereis, RegisteredNames, Notices}
-use Rattle.node_loop.specs.declared.Event.{Event}
-use Rattle.node_loop.specs.declared.Event.TheVariants.{Call as Calls}
+use Rattle.node_loop.specs.declared.LocalEvent.{LocalEvent}
+use Rattle.node_loop.specs.declared.LocalEvent.TheVariants.{Call as Calls}
 use Rattle.node_loop.specs.declared.item.Item.{Item}
 use Rattle.node_loop.specs.declared.item.Item.TheVariants.{Letter, Task as TaskItem}
 use Rattle.node_loop.specs.declared.item.Stamped.{Stamped}
@@ -68,7 +68,7 @@ is_asked (Notices p) = false
 is_asked c = true
 
 -- for other events none are
-abbrev pub asks : Event → Bool
+abbrev pub asks : LocalEvent → Bool
 asks (Calls c) = is_asked c
 asks e = false
 

@@ -1,7 +1,7 @@
 -- How the nodes of a cluster are wired: the inbox of each, and its lines into the inboxes of all.
 use Rattle.std.specs.Prelude.{ℕ, ◌≡◌, ◌==◌, ◌<◌, ◌+◌, Option, List, [], ◌++◌, map, length, slice_index_or, All}
 use Rattle.std.specs.List.{find}
-use Rattle.node_loop.specs.NodeCoreHeld.{Held}
+use Rattle.node_loop.specs.NodeCoreState.{CoreState}
 use Rattle.node_loop.specs.NodeCoreSeen.{node_of}
 use Rattle.node_loop.specs.Openings.{opening_with}
 use Rattle.node_loop.specs.Sound.{IsNodeOf, opened}
@@ -20,7 +20,7 @@ unused line = record line { parcels = [] }
 -- a node as its thread starts: its inbox, the core that it opens with, and its lines
 pub record Wired : Type 0 where
   pub inbox : Inbox
-  pub core : Held
+  pub core : CoreState
   pub lines : List (Sent Item)
 
 abbrev pub name_of : Wired → ℕ

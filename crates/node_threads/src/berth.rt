@@ -13,7 +13,8 @@ use link::Mailbox;
 use name_table::Names;
 use node_loop::{Gate, Item, NodeLoop, Opening, Record};
 use node_seats::{
-    Address, Caller, Host, IdleReaders, KeptPublisher, Line, Opened, Parcel, Publisher, open_node,
+    Address, Caller, Host, IdleReaders, InboxLine, KeptPublisher, Opened, Parcel, Publisher,
+    open_node,
 };
 use std::alloc::{AllocError, Global};
 use std::marker::Model;
@@ -34,7 +35,7 @@ pub(crate) struct Berth<G: Gate + Drop, N: Names, L: Record, R: Wait + Drop> {
     /// Of the node's table.
     publisher: KeptPublisher<R>,
     /// To all nodes.
-    lines: Vec<Line<Item>>,
+    lines: Vec<InboxLine<Item>>,
     gate: Arc<G, Global>,
     node: NodeLoop<N, L>,
 }
@@ -131,7 +132,7 @@ where
     }
 
     /// A line more into the node's inbox.
-    pub(crate) fn line(&mut self) -> Result<Line<Item>, AllocError>
+    pub(crate) fn line(&mut self) -> Result<InboxLine<Item>, AllocError>
         ensures more { OnOk result (self.new ≡ one_more self.old) }
         ensures line { IfOk result (λ line. line ≡ next_line self.old) }
     {
@@ -139,7 +140,7 @@ where
     }
 
     /// Gives the node its lines, on which nothing was put.
-    pub(crate) fn connect(&mut self, lines: Vec<Line<Item>>)
+    pub(crate) fn connect(&mut self, lines: Vec<InboxLine<Item>>)
         requires { map unused lines.items ≡ lines.items }
         ensures { self.new ≡ record self.old { wired = record self.old.wired { lines = lines.items } } }
     {

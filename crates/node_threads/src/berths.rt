@@ -12,7 +12,7 @@ use crate::berth::Berth;
 use crate::shared::Shared;
 use name_table::Names;
 use node_loop::{Gate, Item, Opening, Record};
-use node_seats::Line;
+use node_seats::InboxLine;
 use std::alloc::{AllocError, Global};
 use std::sync::Wait;
 use term::{Node, NodeName};
@@ -49,7 +49,7 @@ where
 fn lines_to<G, N, L, R>(
     alloc: Global,
     berths: &mut [Berth<G, N, L, R>],
-) -> Result<Vec<Line<Item>>, AllocError>
+) -> Result<Vec<InboxLine<Item>>, AllocError>
 where
     G: Gate + Drop,
     N: Names<Memory = Global>,

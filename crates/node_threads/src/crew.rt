@@ -13,7 +13,7 @@ use crate::running::{Returned, Running};
 use crate::shared::Shared;
 use name_table::Names;
 use node_loop::{Gate, Item, NodeEnd, Record};
-use node_seats::{FreeSeat, Line, Past, Place};
+use node_seats::{FreeSeat, InboxLine, Past, Place};
 use std::alloc::{AllocError, Global};
 use std::sync::Wait;
 use std::thread::Threads;
@@ -25,7 +25,7 @@ use term::SLOTS;
 pub(crate) struct Gathered<N: Names, L: Record> {
     pub(crate) ends: Vec<NodeEnd<N, L>>,
     /// The lines of each node.
-    pub(crate) rows: Vec<Vec<Line<Item>>>,
+    pub(crate) rows: Vec<Vec<InboxLine<Item>>>,
     pub(crate) intakes: Vec<Intake>,
     /// The book of each node.
     pub(crate) pasts: Vec<Past>,

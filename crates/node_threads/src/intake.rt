@@ -6,7 +6,7 @@ ghost use Rattle.node_threads.specs.Drawing.{Compares, CompareAll, AllCompared};
 
 use link::Mailbox;
 use node_loop::Item;
-use node_seats::{Address, Line, Parcel};
+use node_seats::{Address, InboxLine, Parcel};
 use std::marker::Model;
 
 /// A node's inbox, once its thread has ended. Contracts see the inbox, and what was taken from it.
@@ -39,7 +39,7 @@ impl Intake {
     }
 
     /// Holds what was taken against what was put on a line into the inbox.
-    pub(crate) fn compare(&mut self, line: Line<Item>)
+    pub(crate) fn compare(&mut self, line: InboxLine<Item>)
         requires { line.room ≡ self.old.inbox.room }
         ensures same { self.new ≡ self.old }
         ensures compared { Compares line self.old }
@@ -49,7 +49,7 @@ impl Intake {
 }
 
 /// Holds what was taken from these inboxes against what one node put on its lines into them.
-fn compare_row(intakes: &mut [Intake], row: Vec<Line<Item>>)
+fn compare_row(intakes: &mut [Intake], row: Vec<InboxLine<Item>>)
     requires { map (λ line. line.room) row.items ≡ map (λ d. d.inbox.room) intakes.old }
     ensures same { intakes.new ≡ intakes.old }
     ensures compared { CompareAll row.items intakes.old }
@@ -62,7 +62,7 @@ fn compare_row(intakes: &mut [Intake], row: Vec<Line<Item>>)
 }
 
 /// Holds what was taken from these inboxes against what each node put on its lines into them.
-pub(crate) fn compare_all(intakes: &mut [Intake], rows: Vec<Vec<Line<Item>>>)
+pub(crate) fn compare_all(intakes: &mut [Intake], rows: Vec<Vec<InboxLine<Item>>>)
     requires { All (λ row. map (λ line. line.room) row.items ≡ map (λ d. d.inbox.room) intakes.old) rows.items }
     ensures same { intakes.new ≡ intakes.old }
     ensures compared { AllCompared (map (λ row. row.items) rows.items) intakes.old }

@@ -42,7 +42,7 @@ pub use ending::{EndFault, EndedCluster};
 pub use fairness::nobody_starves;
 pub use node_loop::{ForgottenLog, Gate, Log, OpenGate, Record, StartFault};
 pub use node_seats::{
-    Call, ForgottenNotes, FreeSeat, HolderSeat, KeptNotes, Line, NameList, NodeStatus, Nodes,
+    Call, ForgottenNotes, FreeSeat, HolderSeat, InboxLine, KeptNotes, NameList, NodeStatus, Nodes,
     Notes, Notice, NoticeList, Numbers, Parcel, Past, Reply, Retries, Seat, SeatFault, StepFault,
     Token, Transcript, what_is_told_lasts,
 };

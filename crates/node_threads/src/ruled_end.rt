@@ -6,8 +6,8 @@ ghost use Rattle.node_threads.specs.Givers.{receivers, node_under};
 ghost use Rattle.node_threads.specs.Traffics.{asks_nodes};
 
 use link::{Inbox, LinkFault, Mailbox, Post, Station, Unsent};
-use node_loop::{Call, Event, Item, Stamped, Task};
-use node_seats::{Line, Parcel};
+use node_loop::{Call, Item, LocalEvent, Stamped, Task};
+use node_seats::{InboxLine, Parcel};
 use std::alloc::Global;
 use std::collections::{LinkedList, VecDeque};
 use std::marker::Model;
@@ -22,7 +22,7 @@ use term::{INBOX_ROOM, MOST_LETTERS, Node};
 pub struct RuledEnd<R: Wait + Drop> {
     rt: R,
     node: Node,
-    lines: Vec<Line<Item>>,
+    lines: Vec<InboxLine<Item>>,
     mailbox: Mailbox<Parcel<Item>>,
     /// The tasks that stood before a letter, the oldest first.
     waiting: VecDeque<Task>,
@@ -67,7 +67,7 @@ impl<R: Wait + Drop> Model for RuledEnd<R> {
 pub struct Traffic {
     node: Node,
     first: Mailbox<Parcel<Item>>,
-    lines: LinkedList<Line<Item>>,
+    lines: LinkedList<InboxLine<Item>>,
     /// The letters of nodes, each with its sender.
     letters: LinkedList<(Node, Item)>,
     tasks: LinkedList<Task>,
@@ -94,14 +94,14 @@ enum Found {
 }
 
 /// The place of the line to this node.
-fn place_of(lines: &[Line<Item>], receiver: &Node) -> Option<usize>
+fn place_of(lines: &[InboxLine<Item>], receiver: &Node) -> Option<usize>
     ensures { result ≡ place receiver.now lines.now }
 {
     lines.iter().position(|line| line.receiver() == receiver)
 }
 
 /// The node whose line into an inbox has this number there. The cluster asks under number 0, and seats behind the nodes.
-fn node_under(lines: &[Line<Item>], number: u64) -> Option<Node>
+fn node_under(lines: &[InboxLine<Item>], number: u64) -> Option<Node>
     ensures { result ≡ node_under number (receivers lines.now) }
 {
     if number == 0 {
@@ -116,10 +116,11 @@ fn asks_nodes(task: &Task) -> bool
     ensures { result ≡ asks_nodes task.now }
 {
     match &task.event {
-        Event::Call(Call::Spawn | Call::Whereis(_) | Call::RegisteredNames | Call::Notices(_)) =>
-            false,
-        Event::Call(_) => true,
-        Event::Retry | Event::Exit(_) | Event::Leave => false,
+        LocalEvent::Call(
+            Call::Spawn | Call::Whereis(_) | Call::RegisteredNames | Call::Notices(_),
+        ) => false,
+        LocalEvent::Call(_) => true,
+        LocalEvent::Retry | LocalEvent::Exit(_) | LocalEvent::Leave => false,
     }
 }
 
@@ -142,7 +143,7 @@ impl<R: Wait + Drop> RuledEnd<R> {
         rt: R,
         alloc: Global,
         node: Node,
-        lines: Vec<Line<Item>>,
+        lines: Vec<InboxLine<Item>>,
         mailbox: Mailbox<Parcel<Item>>,
     ) -> Self
         ensures { result ≡ begun node lines.items mailbox }
@@ -163,7 +164,7 @@ impl<R: Wait + Drop> RuledEnd<R> {
     }
 
     /// Its lines and its inbox. Tasks that wait are dropped.
-    pub(crate) fn into_parts(self) -> (Vec<Line<Item>>, Mailbox<Parcel<Item>>)
+    pub(crate) fn into_parts(self) -> (Vec<InboxLine<Item>>, Mailbox<Parcel<Item>>)
         ensures lines { result.0.items ≡ self.lines }
         ensures letters { letters_of (receivers self.lines) (taken result.1) ≡ self.letters }
         ensures room { mailbox_room result.1 ≡ mailbox_room self.first }

@@ -19,8 +19,8 @@ use link::Mailbox;
 use name_table::Names;
 use node_loop::{Gate, Item, NodeEnd, NodeLoop, Record, TurnFault};
 use node_seats::{
-    Address, Caller, Host, Hub, KeptPublisher, Line, NodeStatus, Parcel, Past, Place, SeatFault,
-    Stop, Token,
+    Address, Caller, Host, Hub, InboxLine, KeptPublisher, NodeStatus, Parcel, Past, Place,
+    SeatFault, Stop, Token,
 };
 use std::alloc::{AllocError, Global};
 use std::marker::Model;
@@ -36,7 +36,7 @@ use term::{Node, SLOTS};
 #[derive(Drop)]
 pub(crate) struct Ended<N: Names, L: Record> {
     pub(crate) end: NodeEnd<N, L>,
-    pub(crate) lines: Vec<Line<Item>>,
+    pub(crate) lines: Vec<InboxLine<Item>>,
     pub(crate) mailbox: Mailbox<Parcel<Item>>,
     pub(crate) past: Option<Past>,
 }
@@ -46,7 +46,7 @@ pub(crate) struct Ended<N: Names, L: Record> {
 #[derive(Drop)]
 pub(crate) struct EndOf<N: Names, L: Record>(
     Snapshot<NodeLoop<N, L>>,
-    Snapshot<Vec<Line<Item>>>,
+    Snapshot<Vec<InboxLine<Item>>>,
     Snapshot<Mailbox<Parcel<Item>>>,
     Snapshot<Token>,
 );
@@ -92,7 +92,7 @@ impl<N: Names, L: Record> Model for Running<N, L> {
 #[derive(Drop)]
 pub(crate) struct Work<G: Gate + Drop, N: Names, L: Record, R: Wait + Drop> {
     pub(crate) node: NodeLoop<N, L>,
-    pub(crate) lines: Vec<Line<Item>>,
+    pub(crate) lines: Vec<InboxLine<Item>>,
     pub(crate) mailbox: Mailbox<Parcel<Item>>,
     pub(crate) gate: Arc<G, Global>,
     pub(crate) host: Host,
@@ -104,7 +104,7 @@ pub(crate) struct Work<G: Gate + Drop, N: Names, L: Record, R: Wait + Drop> {
 #[derive(Drop)]
 pub(crate) struct Returned<N: Names, L: Record> {
     pub(crate) end: NodeEnd<N, L>,
-    pub(crate) lines: Vec<Line<Item>>,
+    pub(crate) lines: Vec<InboxLine<Item>>,
     pub(crate) intake: Intake,
     pub(crate) past: Option<Past>,
 }

@@ -18,10 +18,10 @@ use Rattle.cluster_world.specs.NamedWorld.{NamedWorld, opening_named, named_refu
 use Rattle.cluster_world.specs.NobodyBack.{first_opening, as_named, is_among_first, named_world, AreAlike}
 use Rattle.cluster_world.proofs.NobodyBack.{nobody_came_back}
 use Rattle.term.specs.Nodes.{IsFirst}
-use Rattle.cluster_world.specs.Held.{Held}
+use Rattle.cluster_world.specs.WorldState.{WorldState}
 use Rattle.cluster_world.specs.Openings.{named_opening}
 use Rattle.cluster_world.specs.Seen.{names_of, seen}
-use Rattle.closings.specs.Alone.{Entry as Alone}
+use Rattle.closings.specs.Alone.{LogEntry as Alone}
 use Rattle.closings.specs.Laws.{ConsistentEnds, PlaysToEnd}
 use Rattle.closings.specs.Merging as alone
 use Rattle.closings.proofs.Merged.{consistent_ends_play}
@@ -29,7 +29,7 @@ use Rattle.closings.proofs.Onward.{consistent_ends_go_on}
 use Rattle.node_log.specs.declared.WorldEvent.{WorldEvent as Event}
 use Rattle.node_log.specs.declared.WorldEvent.TheVariants.{At, Deliver, Restart}
 use Rattle.node_log.specs.Events.{event_of, named_event}
-use Rattle.node_log.specs.Entries.{Entry, Logged}
+use Rattle.node_log.specs.Entries.{SeatedEntry, Logged}
 use Rattle.node_log.specs.declared.transcript.Transcript.{Transcript}
 use Rattle.replay.specs.declared.faults.CloseFault.{CloseFault}
 use Rattle.replay.specs.declared.faults.CloseFault.TheVariants.{Torn, LeftInHold, Stranger, Memory}
@@ -82,7 +82,7 @@ is_next_seen logs ss s N = record {
   least = λ t next. go t (next_of t.node logs ss) refl (sym (next_seen t.node logs ss) ∙ next);
 }
   where
-    go : (t : alone.Step) (o : Option Entry) → next_of t.node logs ss ≡ o → option_map seen_entry o ≡ Some t.entry
+    go : (t : alone.Step) (o : Option SeatedEntry) → next_of t.node logs ss ≡ o → option_map seen_entry o ≡ Some t.entry
         → alone.is_before t (seen_step s) ≡ false
     go t None is e = cc
     go t (Some x) is e =
@@ -101,7 +101,7 @@ taken_seen logs o before (s ∷ ss) T = (
 )
 
 -- whether a stamp rises
-rises_seen : (es : List Entry) (k : ℕ) → alone.Rises (map seen_entry es) k → Rises es k
+rises_seen : (es : List SeatedEntry) (k : ℕ) → alone.Rises (map seen_entry es) k → Rises es k
 rises_seen es zero r = tt
 rises_seen es (suc k) r = λ d e here next.
     r (seen_entry d) (seen_entry e) (slice_get-map seen_entry es k ∙ ap (option_map seen_entry) here)
@@ -121,7 +121,7 @@ order_seen (s ∷ t ∷ ss) T = (T.0, order_seen (t ∷ ss) T.1)
 merged_seen : (logs : List Logged) (ss : List Step) → IsMerged logs ss → alone.IsMerged (seen_logs logs) (map seen_step ss)
 merged_seen logs ss M = record {
   order = order_seen ss M.order;
-  whole = λ a. steps_seen a ss ∙ ap (λ (es : List Entry). map seen_entry es) (M.whole a);
+  whole = λ a. steps_seen a ss ∙ ap (λ (es : List SeatedEntry). map seen_entry es) (M.whole a);
 }
 
 -- what holds of all of two lists holds of the first
@@ -262,7 +262,7 @@ module _ (cluster lone : List ℕ) (first : All IsFirst (cluster ++ lone)) (ends
         among = among_first names (alone.world_behind o (map seen_step ss)) (event_of s.entry.event) t.accepted
 
   -- it is not stuck in the logs
-  not_stuck : (h : Held) (a k : ℕ) → names_of h ≡ names → IsStuck (logs_of ends) (names_of h) a k → ⊥
+  not_stuck : (h : WorldState) (a k : ℕ) → names_of h ≡ names → IsStuck (logs_of ends) (names_of h) a k → ⊥
   not_stuck h a k same S = stuck (subst (λ (n : NamedOpening). IsStuck (logs_of ends) n a k) same S)
     where
       stuck : IsStuck (logs_of ends) names a k → ⊥

@@ -3,7 +3,7 @@ use Rattle.std.proofs.Common.{ℕ, ◌≡◌, None, List, [], ◌∷◌, ◌++�
 use Rattle.protocol_model.specs.NamedEvents.{NamedEvent, Deliver as DeliverByName}
 use Rattle.term.specs.Nodes.{name_of, text_in}
 use Rattle.term.proofs.Numbers.{text_in-first_node}
-use Rattle.cluster_world.specs.Held.{Held}
+use Rattle.cluster_world.specs.WorldState.{WorldState}
 use Rattle.cluster_world.specs.NamedWorld.{as_events, named_refusal, happens_named, named_answers}
 use Rattle.cluster_world.specs.Agreeing.{Agrees, AgreesAfter, Adds}
 use Rattle.cluster_world.specs.Locks.{LocksAfter}
@@ -27,7 +27,7 @@ same_delivery f t x y e g = ap (λ (a : ℕ). DeliverByName a (text_in y)) (text
     ∙ ap (λ (b : ℕ). DeliverByName (text_in f) b) (text_of t y g)
 
 -- what is said of one event of a world is said of the other that is the same there
-module _ (d e : WorldEvent) (same : named_event d ≡ named_event e) (old new : Held) where
+module _ (d e : WorldEvent) (same : named_event d ≡ named_event e) (old new : WorldState) where
   pub agrees_same : (given : List Answer) → Agrees (d ∷ []) given old new → Agrees (e ∷ []) given old new
   agrees_same given A before run = subst (λ (x : NamedEvent). AgreesAfter (before ++ x ∷ []) new
       × Adds (names_of old) before (x ∷ []) given) same (A before run)

@@ -15,8 +15,8 @@ use Rattle.term.specs.Nodes.{IsFirst, name_of, text_in, creation_of}
 use Rattle.term.specs.NodeSets.{set_of, names_in}
 use Rattle.replay.proofs.Merging.{set_of-at}
 use Rattle.term.proofs.Numbers.{name_of-first}
-use Rattle.cluster_world.specs.NodeCoreHeld.{bound_of}
-use Rattle.cluster_world.specs.Held.{Held, nodes_of}
+use Rattle.cluster_world.specs.NodeCoreState.{bound_of}
+use Rattle.cluster_world.specs.WorldState.{WorldState, nodes_of}
 use Rattle.cluster_world.specs.Openings.{named_opening, name_bound, is_named_in, present_in, creation_in}
 use Rattle.cluster_world.specs.Seen.{names_of, named}
 use Rattle.cluster_world.specs.Starting.{Opens}
@@ -88,7 +88,7 @@ names_same xs ys cluster joined same joins =
       bound_within ys (name_bound xs) (λ c i. below_bound xs c (same c ∙ i)),
     )
 
-pub opens_names : (cluster lone : List ℕ) (h : Held) → Opens cluster lone h → names_of h ≡ named_opening (cluster ++ lone) cluster
+pub opens_names : (cluster lone : List ℕ) (h : WorldState) → Opens cluster lone h → names_of h ≡ named_opening (cluster ++ lone) cluster
 opens_names cluster lone h O = names_same (nodes_of h) (cluster ++ lone) h.cluster cluster O.nodes O.joined
 
 -- a node of first nodes is one
@@ -100,7 +100,7 @@ first_of (x ∷ xs) all c e = elim (cases_eq x c) [
 ]
 
 -- a world of first nodes was started with lists of first nodes
-pub firsts : (cluster lone : List ℕ) (h : Held) → Opens cluster lone h → All IsFirst (nodes_of h) → All IsFirst (cluster ++ lone)
+pub firsts : (cluster lone : List ℕ) (h : WorldState) → Opens cluster lone h → All IsFirst (nodes_of h) → All IsFirst (cluster ++ lone)
 firsts cluster lone h O all = λ k d l. first_of (nodes_of h) all (get_or (cluster ++ lone) k d)
     (O.nodes (get_or (cluster ++ lone) k d) ∙ set_of-at (cluster ++ lone) k (get_or (cluster ++ lone) k d) (slice_get-get_or (cluster ++ lone) k d l))
 

@@ -11,7 +11,7 @@ use Rattle.std.proofs.Math.Bool.{or-true}
 use Rattle.cluster_world.specs.NodeNames.{NamedOpening}
 use Rattle.term.specs.NodeSets.{set_of}
 use Rattle.node_log.specs.Openings.{repeats}
-use Rattle.node_log.specs.Entries.{Entry, Logged}
+use Rattle.node_log.specs.Entries.{SeatedEntry, Logged}
 use Rattle.replay.specs.Steps.{Step, steps_of, log_of, next_of, is_before}
 use Rattle.replay.specs.Merging.{IsInOrder, IsMerged, IsNext, Rises, RisesBehind}
 use Rattle.replay.specs.Playing.{Takes, world_behind, AreTaken}
@@ -33,7 +33,7 @@ steps_of-own a (r ∷ ss) s e = go (r.node == a) (steps_of-own a ss s e)
         (if b then r ∷ filter (λ (t : Step). t.node == a) (ss ++ s ∷ []) else filter (λ (t : Step). t.node == a) (ss ++ s ∷ []))
         ≡ map (λ (t : Step). t.entry)
         (if b then r ∷ filter (λ (t : Step). t.node == a) ss else filter (λ (t : Step). t.node == a) ss) ++ s.entry ∷ []
-    go true h = ap (λ (es : List Entry). r.entry ∷ es) h
+    go true h = ap (λ (es : List SeatedEntry). r.entry ∷ es) h
     go false h = h
 
 other_false : (a b : ℕ) → (a ≡ b → ⊥) → (a == b) ≡ false
@@ -48,7 +48,7 @@ steps_of-other a (r ∷ ss) s ne = go (r.node == a) (steps_of-other a ss s ne)
         (if b then r ∷ filter (λ (t : Step). t.node == a) (ss ++ s ∷ []) else filter (λ (t : Step). t.node == a) (ss ++ s ∷ []))
         ≡ map (λ (t : Step). t.entry)
         (if b then r ∷ filter (λ (t : Step). t.node == a) ss else filter (λ (t : Step). t.node == a) ss)
-    go true h = ap (λ (es : List Entry). r.entry ∷ es) h
+    go true h = ap (λ (es : List SeatedEntry). r.entry ∷ es) h
     go false h = h
 
 pub length-push : {X : Type 0} (xs : List X) (x : X) → length (xs ++ x ∷ []) ≡ length xs + 1
@@ -56,11 +56,11 @@ length-push xs x = length-append xs (x ∷ [])
 
 pub count-own : (a : ℕ) (ss : List Step) (s : Step) → s.node ≡ a
     → length (steps_of a (ss ++ s ∷ [])) ≡ length (steps_of a ss) + 1
-count-own a ss s e = ap (λ (es : List Entry). length es) (steps_of-own a ss s e) ∙ length-push (steps_of a ss) s.entry
+count-own a ss s e = ap (λ (es : List SeatedEntry). length es) (steps_of-own a ss s e) ∙ length-push (steps_of a ss) s.entry
 
 pub count-other : (a : ℕ) (ss : List Step) (s : Step) → (s.node ≡ a → ⊥)
     → length (steps_of a (ss ++ s ∷ [])) ≡ length (steps_of a ss)
-count-other a ss s ne = ap (λ (es : List Entry). length es) (steps_of-other a ss s ne)
+count-other a ss s ne = ap (λ (es : List SeatedEntry). length es) (steps_of-other a ss s ne)
 
 -- of two steps of different nodes, one is before the other
 either_before : (x y m n : ℕ) → (nat_lt x y || ((x == y) && nat_lt m n)) ≡ false → (m ≡ n → ⊥)
@@ -155,7 +155,7 @@ module _ (logs : List Logged) (o : NamedOpening) where
   begin_push ss s B N a = elim (cases_eq s.node a) [ inl e ↦ own e | inr ne ↦ other ne ]
     where
       own : s.node ≡ a → steps_of a (ss ++ s ∷ []) ≡ take (length (steps_of a (ss ++ s ∷ []))) (log_of a logs)
-      own e = steps_of-own a ss s e ∙ ap (λ (es : List Entry). es ++ s.entry ∷ []) (B a)
+      own e = steps_of-own a ss s e ∙ ap (λ (es : List SeatedEntry). es ++ s.entry ∷ []) (B a)
           ∙ take-next (log_of a logs) (length (steps_of a ss)) s.entry (ap (λ (c : ℕ). next_of c logs ss) (sym e) ∙ N.head)
           ∙ ap (λ (k : ℕ). take k (log_of a logs)) (sym (count-own a ss s e ∙ suc-is (length (steps_of a ss))))
 
@@ -268,7 +268,7 @@ alone (x ∷ xs) (suc j) zero c h p q =
 alone (x ∷ xs) (suc j) (suc k) c h p q = ap suc (alone xs j k c (or_parts (set_of xs x) (repeats xs) h).1 p q)
 
 -- whether the stamp of an entry rises
-pub rises_by : (es : List Entry) (at before : ℕ) (d e : Entry) → at ≡ suc before → slice_get es before ≡ Some d
+pub rises_by : (es : List SeatedEntry) (at before : ℕ) (d e : SeatedEntry) → at ≡ suc before → slice_get es before ≡ Some d
     → slice_get es at ≡ Some e → MatchBool (nat_lt d.stamp e.stamp) (Rises es at) (Rises es at → ⊥)
 rises_by es at before d e is h i =
     subst (λ (k : ℕ). MatchBool (nat_lt d.stamp e.stamp) (Rises es k) (Rises es k → ⊥)) (sym is)
@@ -285,8 +285,8 @@ rises_by es at before d e is h i =
     go true l j = λ f g p q.
         let first : d ≡ f = some_one d f (sym h ∙ p) in
         let second : e ≡ g = some_one e g (sym j ∙ q) in
-        subst (λ (x : Entry). f.stamp < x.stamp) second
-        (subst (λ (x : Entry). x.stamp < e.stamp) first (below d.stamp e.stamp l))
+        subst (λ (x : SeatedEntry). f.stamp < x.stamp) second
+        (subst (λ (x : SeatedEntry). x.stamp < e.stamp) first (below d.stamp e.stamp l))
     go false l j = λ rises. above d.stamp e.stamp l (rises d e h j)
 
 -- the log of a node is the one that stands there, where no node has two

@@ -8,7 +8,7 @@ use Rattle.registry_model.specs.Process.{Nodes}
 use Rattle.protocol_model.specs.World.{in_world}
 use Rattle.term.specs.Nodes.{name_of}
 use Rattle.term.specs.NodeSets.{set_of}
-use Rattle.cluster_world.specs.NodeCoreHeld.{bound_of}
+use Rattle.cluster_world.specs.NodeCoreState.{bound_of}
 use Rattle.cluster_world.proofs.Bounds.{below_bound}
 use Rattle.node_log.specs.Openings.{Opened, IsOpening, opening_with}
 

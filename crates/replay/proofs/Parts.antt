@@ -4,7 +4,7 @@ use Rattle.std.specs.List.{slice_get}
 use Rattle.std.proofs.lemmas.Bool.{eqb-true, eq-eqb}
 use Rattle.std.specs.Prelude.{Option, IsTrue, nat_eq, ◌==◌, find, ◌↔◌, if◌then◌else◌}
 use Rattle.protocol_model.specs.Event.{Answer as AnyAnswer}
-use Rattle.node_log.specs.Entries.{Entry}
+use Rattle.node_log.specs.Entries.{SeatedEntry}
 use Rattle.replay.specs.Transcripts.{Given, IsPartOf, given, given_at, numbered, answering, is_of, answers_call, said_in, first_answer, answer_in, IsLeft}
 use Rattle.replay.specs.declared.transcripts.Answering.{Answering}
 use Rattle.replay.specs.declared.transcripts.Answering.TheVariants.{AtOnce}
@@ -62,7 +62,7 @@ drop_at {X} (y ∷ ys) zero x h = ap (λ (z : X). z ∷ ys) (some_one y x h)
 drop_at (y ∷ ys) (suc k) x h = drop_at ys k x h
 
 -- the steps of the search
-module _ (a seat : ℕ) (told : List Given) (es : List Entry) (found n at : ℕ) (e : Entry) (here : slice_get es at ≡ Some e) where
+module _ (a seat : ℕ) (told : List Given) (es : List SeatedEntry) (found n at : ℕ) (e : SeatedEntry) (here : slice_get es at ≡ Some e) where
   gives_now : is_of seat e.seat ≡ true → given a seat n (drop at es) ≡ given_at a n e (drop (suc at) es) ∷ given a seat (numbered n (answering e.event)) (drop (suc at) es)
   gives_now own = ap (given a seat n) (drop_at es at e here)
       ∙ ap (λ (b : Bool). if b
@@ -146,7 +146,7 @@ drop_past [] (suc k) h = refl
 drop_past (x ∷ xs) zero h = cc
 drop_past (x ∷ xs) (suc k) h = drop_past xs k h
 
-module _ (a b n : ℕ) (es : List Entry) (k : ℕ) (e : Entry) (at : slice_get es k ≡ Some e) (same : b ≡ a) where
+module _ (a b n : ℕ) (es : List SeatedEntry) (k : ℕ) (e : SeatedEntry) (at : slice_get es k ≡ Some e) (same : b ≡ a) where
   here : first_answer a n (drop k es) ≡ elim (find (answers_call a n) (said_in e)) [ None ↦ first_answer a n (drop (suc k) es) | Some s ↦ Some s ]
   here = ap (first_answer a n) (drop_at es k e at)
 
@@ -171,7 +171,7 @@ module _ (a b n : ℕ) (es : List Entry) (k : ℕ) (e : Entry) (at : slice_get e
       ∙ ap (λ (j : ℕ). first_answer a n (drop j es)) (one_more k)
 
 -- at the beginning nothing was looked at
-pub left_first : (a seat : ℕ) (told : List Given) (es : List Entry) → IsLeft a seat told es 0 0 0
+pub left_first : (a seat : ℕ) (told : List Given) (es : List SeatedEntry) → IsLeft a seat told es 0 0 0
 left_first a seat told es = record { on = λ h. h; back = λ h. h }
 
 drop_full : {X : Type 0} (xs : List X) (k : ℕ) → length xs ≤ k → drop k xs ≡ []
@@ -189,17 +189,17 @@ full_drop (x ∷ xs) zero e = cc
 full_drop (x ∷ xs) (suc k) e = omega (arith, full_drop xs k e)
 
 -- at the end the transcript is part of what the log gives where all of it was found
-pub left_last : (a seat : ℕ) (told : List Given) (es : List Entry) (found n at : ℕ) → IsLeft a seat told es found n at
+pub left_last : (a seat : ℕ) (told : List Given) (es : List SeatedEntry) (found n at : ℕ) → IsLeft a seat told es found n at
     → length es ≤ at → (length told ≤ found → IsPartOf told (given a seat 0 es))
     × (IsPartOf told (given a seat 0 es) → length told ≤ found)
 left_last a seat told es found n at L past = (
   λ l. L.on (subst (λ (xs : List Given). IsPartOf xs (given a seat n (drop at es))) (sym (drop_full told found l)) tt),
   λ h. full_drop told found (among_none (drop found told)
-      (subst (λ (xs : List Entry). IsPartOf (drop found told) (given a seat n xs)) (drop_full es at past) (L.back h))),
+      (subst (λ (xs : List SeatedEntry). IsPartOf (drop found told) (given a seat n xs)) (drop_full es at past) (L.back h))),
 )
 
 -- an answer at once
-pub answered_at_once : (a b n : ℕ) (kind : Answering) (es : List Entry) (k : ℕ) (e : Entry) → kind ≡ AtOnce
+pub answered_at_once : (a b n : ℕ) (kind : Answering) (es : List SeatedEntry) (k : ℕ) (e : SeatedEntry) → kind ≡ AtOnce
     → slice_get es k ≡ Some e → b ≡ a → (o : Option AnyAnswer) → o ≡ find (answers_call b 0) (said_in e)
     → o ≡ answer_in a n kind (drop k es)
 answered_at_once a b n kind es k e is at same o h =
@@ -207,13 +207,13 @@ answered_at_once a b n kind es k e is at same o h =
     ∙ sym (ap (answer_in a n AtOnce) (drop_at es k e at))
     ∙ ap (λ (j : Answering). answer_in a n j (drop k es)) (sym is)
 
-pub unanswered_at_once : (a n : ℕ) (kind : Answering) (es : List Entry) (k : ℕ) → kind ≡ AtOnce → slice_get es k ≡ None
+pub unanswered_at_once : (a n : ℕ) (kind : Answering) (es : List SeatedEntry) (k : ℕ) → kind ≡ AtOnce → slice_get es k ≡ None
     → None ≡ answer_in a n kind (drop k es)
 unanswered_at_once a n kind es k is at =
     sym (ap (answer_in a n AtOnce) (drop_past es k at)) ∙ ap (λ (j : Answering). answer_in a n j (drop k es)) (sym is)
 
 -- what a step gives, where its number and how it is answered are these
-pub given_same : (a n at : ℕ) (es : List Entry) (e : Entry) → slice_get es at ≡ Some e → (m : ℕ) (kind : Answering)
+pub given_same : (a n at : ℕ) (es : List SeatedEntry) (e : SeatedEntry) → slice_get es at ≡ Some e → (m : ℕ) (kind : Answering)
     → kind ≡ answering e.event → m ≡ numbered n kind → given_at a n e (drop (suc at) es)
     ≡ record { event = e.event; answer = answer_in a m kind (drop at es) }
 given_same a n at es e here m kind how is =
@@ -229,7 +229,7 @@ number_is : (found len : ℕ) → (nat_eq found len) ≡ true → len ≤ found
 number_is found len e = omega (arith, eqb-true found len e)
 
 -- whether the transcript is part of what the log gives, by how much of it was found
-pub follows_iff : (a seat : ℕ) (told : List Given) (es : List Entry) (found n at len end : ℕ) → IsLeft a seat told es found n at
+pub follows_iff : (a seat : ℕ) (told : List Given) (es : List SeatedEntry) (found n at len end : ℕ) → IsLeft a seat told es found n at
     → length es ≡ end → end ≤ at → found ≤ len → len ≡ length told → IsTrue (nat_eq found len) ↔ IsPartOf told (given a seat 0 es)
 follows_iff a seat told es found n at len end L is past within long =
     let last = left_last a seat told es found n at L (omega (arith, is, past)) in (
@@ -246,11 +246,11 @@ no_image f [] e = refl
 no_image f (x ∷ xs) e = cc
 
 -- nothing but nothing is part of an empty log
-pub none_iff : {X : Type 0} (f : X → Given) (a seat : ℕ) (xs : List X) (es : List Entry) (r : Bool) (len : ℕ) → es ≡ [] → len ≡ length xs → r ≡ (len == 0)
+pub none_iff : {X : Type 0} (f : X → Given) (a seat : ℕ) (xs : List X) (es : List SeatedEntry) (r : Bool) (len : ℕ) → es ≡ [] → len ≡ length xs → r ≡ (len == 0)
     → IsTrue r ↔ IsPartOf (map f xs) (given a seat 0 es)
 none_iff f a seat xs es r len none long is = (
   λ t. subst (λ (gs : List Given). IsPartOf gs (given a seat 0 es))
       (sym (ap (map f) (no_items xs (sym long ∙ eqb-true len 0 (sym is ∙ t))))) tt,
   λ h. is ∙ eq-eqb len 0 (long ∙ no_image f xs (among_none (map f xs)
-      (subst (λ (l : List Entry). IsPartOf (map f xs) (given a seat 0 l)) none h))),
+      (subst (λ (l : List SeatedEntry). IsPartOf (map f xs) (given a seat 0 l)) none h))),
 )

@@ -7,13 +7,13 @@ use Rattle.replay.specs.Steps.{steps_of}
 use Rattle.protocol_model.specs.NamedEvents.{NamedEvent}
 use Rattle.cluster_world.specs.NodeNames.{NamedOpening}
 use Rattle.cluster_world.specs.NamedWorld.{NamedWorld, opening_named, happens_named, run_named, as_events}
-use Rattle.cluster_world.specs.Held.{Held}
+use Rattle.cluster_world.specs.WorldState.{WorldState}
 use Rattle.cluster_world.specs.Agreeing.{AgreesAfter}
 use Rattle.cluster_world.specs.Locks.{LocksAfter}
 use Rattle.cluster_world.specs.Playing.{Keeps}
 use Rattle.cluster_world.specs.Seen.{names_of, opening_of, seen, named}
 use Rattle.cluster_world.proofs.Leftovers.{nothing_left}
-use Rattle.node_log.specs.Entries.{Entry, Logged}
+use Rattle.node_log.specs.Entries.{SeatedEntry, Logged}
 use Rattle.replay.specs.declared.merge.Reader.{Reader}
 use Rattle.replay.specs.Merging.{IsNext, Rises, RisesBehind}
 use Rattle.replay.specs.Moves.{Moves, MovesReader, StopsReader}
@@ -33,7 +33,7 @@ use Rattle.replay.proofs.Merging.{taken_push, length-push, all_merged}
 use Rattle.replay.proofs.Reading.{own_log, comes_next, read_on, all_read}
 
 -- so far these logs were played
-pub record SoFar (logs : List Logged) (old : Held) (events : ℕ) (new : Held) (rs : List Reader) : Type 0 where
+pub record SoFar (logs : List Logged) (old : WorldState) (events : ℕ) (new : WorldState) (rs : List Reader) : Type 0 where
   pub steps : List Step
   pub count : events ≡ length steps
   pub taken : AreTaken logs (names_of old) [] steps
@@ -51,14 +51,14 @@ events_push : (ss : List Step) (s : Step) → events_in (ss ++ s ∷ []) ≡ eve
 events_push ss s = map-append happening ss (s ∷ [])
 
 -- what the world is behind a run
-pub is_behind : (ss : List Step) (h : Held) → IsRun ss h → named h ≡ world_behind (names_of h) ss
+pub is_behind : (ss : List Step) (h : WorldState) → IsRun ss h → named h ≡ world_behind (names_of h) ss
 is_behind ss h R = R.agrees.is_run
 
-pub kept_on : (old mid new : Held) → Keeps old mid → Keeps mid new → Keeps old new
+pub kept_on : (old mid new : WorldState) → Keeps old mid → Keeps mid new → Keeps old new
 kept_on old mid new K L = record { names = L.names ∙ K.names; cluster = L.cluster ∙ K.cluster }
 
 -- a run goes on by a step that the world takes
-pub run_on : (ss : List Step) (s : Step) (old new : Held) → IsRun ss old → Moves s old new → IsRun (ss ++ s ∷ []) new
+pub run_on : (ss : List Step) (s : Step) (old new : WorldState) → IsRun ss old → Moves s old new → IsRun (ss ++ s ∷ []) new
 run_on ss s old new R M = record {
   takes = subst (λ (o : NamedOpening). TakesAll o (opening_named o) (ss ++ s ∷ [])) (sym M.kept.names)
       (takes_all (names_of old) (opening_named (names_of old)) ss s R.takes
@@ -74,13 +74,13 @@ run_on ss s old new R M = record {
         (M.agrees (events_in ss) R.agrees.is_run).0
 
 -- the world behind these steps of a world that opened so
-pub behind : (logs : List Logged) (old : Held) (events : ℕ) (mid : Held) (rs : List Reader) (S : SoFar logs old events mid rs)
+pub behind : (logs : List Logged) (old : WorldState) (events : ℕ) (mid : WorldState) (rs : List Reader) (S : SoFar logs old events mid rs)
     → named mid ≡ world_behind (names_of old) S.steps
 behind logs old events mid rs S =
     is_behind S.steps mid S.run ∙ ap (λ (o : NamedOpening). world_behind o S.steps) S.kept.names
 
 -- one step more was played
-pub so_far_more : (logs : List Logged) (old mid new : Held) (events : ℕ) (rs qs : List Reader) (S : SoFar logs old events mid rs) (s : Step)
+pub so_far_more : (logs : List Logged) (old mid new : WorldState) (events : ℕ) (rs qs : List Reader) (S : SoFar logs old events mid rs) (s : Step)
     → IsNext logs S.steps s → RisesBehind logs S.steps s → Moves s mid new → StandBehind logs (S.steps ++ s ∷ []) qs
     → SoFar logs old (events + 1) new qs
 so_far_more logs old mid new events rs qs S s next up M stand = record {
@@ -94,7 +94,7 @@ so_far_more logs old mid new events rs qs S s next up M stand = record {
   stand = stand;
 }
 
-module _ (logs : List Logged) (once : repeats (map (λ (l : Logged). l.node) logs) ≡ false) (old : Held) (events : ℕ) (mid : Held) (rs : List Reader) (S : SoFar logs old events mid rs) where
+module _ (logs : List Logged) (once : repeats (map (λ (l : Logged). l.node) logs) ≡ false) (old : WorldState) (events : ℕ) (mid : WorldState) (rs : List Reader) (S : SoFar logs old events mid rs) where
   -- no entry is left: all was played
   pub run_through : AllSuch (λ (r : Reader). head_of r ≡ None) rs (length rs) → RunsThrough logs events old mid
   run_through none = record {
@@ -106,14 +106,14 @@ module _ (logs : List Logged) (once : repeats (map (λ (l : Logged). l.node) log
   }
 
   -- the stamp of what a reader has next rises behind these steps, where it rises in the log that it reads
-  rising : (k : ℕ) (r : Reader) (e : Entry) → slice_get rs k ≡ Some r
+  rising : (k : ℕ) (r : Reader) (e : SeatedEntry) → slice_get rs k ≡ Some r
       → RisesBehind logs S.steps (step_of r e) ≡ Rises r.log.now.entries r.at
-  rising k r e h = ap (λ (es : List Entry). Rises es (length (steps_of r.log.now.node S.steps)))
+  rising k r e h = ap (λ (es : List SeatedEntry). Rises es (length (steps_of r.log.now.node S.steps)))
       (own_log logs once S.steps rs S.stand k r h)
       ∙ ap (Rises r.log.now.entries) (sym (S.stand.at k r h))
 
   -- the step that came next was played
-  pub played_next : (k : ℕ) (L : IsLeastOther (λ (r : Reader). head_of r ≡ None) goes_first rs (length rs) k) (e : Entry) (new : Held)
+  pub played_next : (k : ℕ) (L : IsLeastOther (λ (r : Reader). head_of r ≡ None) goes_first rs (length rs) k) (e : SeatedEntry) (new : WorldState)
       → head_of L.item ≡ Some e → MovesReader L.item mid new
       → SoFar logs old (events + 1) new (set rs k (record L.item { at = L.item.at + 1 }))
   played_next k L e new h M = so_far_more logs old mid new events rs (set rs k (record L.item { at = L.item.at + 1 })) S
@@ -141,7 +141,7 @@ module _ (logs : List Logged) (once : repeats (map (λ (l : Logged). l.node) log
   stuck_next (Stranger seat) k L h = h
   stuck_next Memory k L h = tt
 
-  some_entry : (o : Option Entry) → (o ≡ None → ⊥) → (e : Entry) × (o ≡ Some e)
+  some_entry : (o : Option SeatedEntry) → (o ≡ None → ⊥) → (e : SeatedEntry) × (o ≡ Some e)
   some_entry None h = absurd (h refl)
   some_entry (Some e) h = (e, refl)
 
@@ -160,7 +160,7 @@ module _ (logs : List Logged) (once : repeats (map (λ (l : Logged). l.node) log
       (let e = some_entry (head_of L.item) L.other in slice_get_within L.item.log.now.entries L.item.at e.0 e.1)
 
   pub played_at : (k : ℕ) (L : IsLeastOther (λ (r : Reader). head_of r ≡ None) goes_first rs (length rs) k) (r : Reader)
-      → slice_get rs k ≡ Some r → (new : Held) → MovesReader r mid new → (qs : List Reader)
+      → slice_get rs k ≡ Some r → (new : WorldState) → MovesReader r mid new → (qs : List Reader)
       → qs ≡ set rs k (record r { at = r.at + 1 }) → SoFar logs old (events + 1) new qs
   played_at k L r h new M qs is =
       subst (SoFar logs old (events + 1) new) (sym is)

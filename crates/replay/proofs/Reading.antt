@@ -6,7 +6,7 @@ use Rattle.std.specs.List.{slice_get}
 use Rattle.std.specs.Option.{option_map}
 use Rattle.std.specs.Prelude.{Option, is_some}
 use Rattle.node_log.specs.Openings.{repeats}
-use Rattle.node_log.specs.Entries.{Entry, Logged}
+use Rattle.node_log.specs.Entries.{SeatedEntry, Logged}
 use Rattle.replay.specs.declared.merge.Reader.{Reader}
 use Rattle.replay.specs.Least.{AllSuch, IsLeastOther}
 use Rattle.replay.specs.Merging.{IsNext}
@@ -21,7 +21,7 @@ node_of : Logged → ℕ
 node_of l = l.node
 
 -- what goes first
-first_of_two : Reader → Reader → Option Entry → Option Entry → Bool
+first_of_two : Reader → Reader → Option SeatedEntry → Option SeatedEntry → Bool
 first_of_two r s h k =
     elim h [ None ↦ false | Some e ↦ elim k [ None ↦ false | Some f ↦ is_before (step_of r e) (step_of s f) ] ]
 
@@ -29,7 +29,7 @@ pub goes_first-trans : (r s t : Reader) → goes_first r s ≡ true → goes_fir
 unfolding first_of_two
 goes_first-trans r s t h k = go (head_of r) (head_of s) (head_of t) h k
   where
-    go : (a b c : Option Entry) → first_of_two r s a b ≡ true → first_of_two s t b c ≡ true → first_of_two r t a c ≡ true
+    go : (a b c : Option SeatedEntry) → first_of_two r s a b ≡ true → first_of_two s t b c ≡ true → first_of_two r t a c ≡ true
     go None b c h k = cc
     go (Some e) None c h k = cc
     go (Some e) (Some f) None h k = cc
@@ -39,15 +39,15 @@ pub goes_first-anti : (r : Reader) → goes_first r r ≡ false
 unfolding first_of_two
 goes_first-anti r = go (head_of r)
   where
-    go : (a : Option Entry) → first_of_two r r a a ≡ false
+    go : (a : Option SeatedEntry) → first_of_two r r a a ≡ false
     go None = refl
     go (Some e) = is_before-anti (step_of r e)
 
-first_at : (r s : Reader) (e f : Entry) → head_of r ≡ Some e → head_of s ≡ Some f → goes_first r s
+first_at : (r s : Reader) (e f : SeatedEntry) → head_of r ≡ Some e → head_of s ≡ Some f → goes_first r s
     ≡ is_before (step_of r e) (step_of s f)
 unfolding first_of_two
-first_at r s e f h k = ap (λ (a : Option Entry). first_of_two r s a (head_of s)) h
-    ∙ ap (λ (b : Option Entry). first_of_two r s (Some e) b) k
+first_at r s e f h k = ap (λ (a : Option SeatedEntry). first_of_two r s a (head_of s)) h
+    ∙ ap (λ (b : Option SeatedEntry). first_of_two r s (Some e) b) k
 
 there : {X : Type 0} (xs : List X) (k : ℕ) → k < length xs → (x : X) × (slice_get xs k ≡ Some x)
 there [] k l = absurd (omega (arith, l))
@@ -88,12 +88,12 @@ module _ (logs : List Logged) (once : repeats (map (λ (l : Logged). l.node) log
   own_log k r h = log_is logs once k r.log.now (stand.reads k r h)
 
   -- a log that has an entry left is that of a reader that has it
-  pub reader_of : (a : ℕ) (e : Entry) → next_of a logs ss ≡ Some e
+  pub reader_of : (a : ℕ) (e : SeatedEntry) → next_of a logs ss ≡ Some e
       → (k : ℕ) × (r : Reader) × (slice_get rs k ≡ Some r) × (r.log.now.node ≡ a) × (head_of r ≡ Some e)
   reader_of a e h = elim (found a logs) [ inl none ↦ absurd (empty none) | inr S ↦ at S ]
     where
       empty : log_of a logs ≡ [] → ⊥
-      empty none = never e (sym (ap (λ (es : List Entry). slice_get es (length (steps_of a ss))) none) ∙ h)
+      empty none = never e (sym (ap (λ (es : List SeatedEntry). slice_get es (length (steps_of a ss))) none) ∙ h)
 
       at : Stands a logs → (k : ℕ) × (r : Reader) × (slice_get rs k ≡ Some r) × (r.log.now.node ≡ a) × (head_of r ≡ Some e)
       at S =
@@ -106,15 +106,15 @@ module _ (logs : List Logged) (once : repeats (map (λ (l : Logged). l.node) log
             whose,
             ap (slice_get item.0.log.now.entries) (stand.at S.place item.0 item.1
                 ∙ ap (λ (c : ℕ). length (steps_of c ss)) whose)
-                ∙ ap (λ (es : List Entry). slice_get es (length (steps_of a ss)))
+                ∙ ap (λ (es : List SeatedEntry). slice_get es (length (steps_of a ss)))
                 (ap (λ (l : Logged). l.entries) is ∙ sym S.is) ∙ h,
           )
 
   -- what the first reader has comes next
-  pub comes_next : (k : ℕ) (L : IsLeastOther (λ r. head_of r ≡ None) goes_first rs (length rs) k) (e : Entry)
+  pub comes_next : (k : ℕ) (L : IsLeastOther (λ r. head_of r ≡ None) goes_first rs (length rs) k) (e : SeatedEntry)
       → head_of L.item ≡ Some e → IsNext logs ss (step_of L.item e)
   comes_next k L e h = record {
-    head = ap (λ (es : List Entry). slice_get es (length (steps_of L.item.log.now.node ss))) (own_log k L.item L.here)
+    head = ap (λ (es : List SeatedEntry). slice_get es (length (steps_of L.item.log.now.node ss))) (own_log k L.item L.here)
         ∙ ap (slice_get L.item.log.now.entries) (sym (stand.at k L.item L.here)) ∙ h;
     least = λ t n. later t (reader_of t.node t.entry n);
   }
@@ -128,7 +128,7 @@ module _ (logs : List Logged) (once : repeats (map (λ (l : Logged). l.node) log
           ∙ L.least w.0 w.1 (slice_get_within rs w.0 w.1 w.2) w.2 (λ none. never t.entry (sym none ∙ w.4))
 
   -- and when it is read, the readers stand behind it
-  pub read_on : (k : ℕ) (r : Reader) (e : Entry) → slice_get rs k ≡ Some r
+  pub read_on : (k : ℕ) (r : Reader) (e : SeatedEntry) → slice_get rs k ≡ Some r
       → StandBehind logs (ss ++ step_of r e ∷ []) (set rs k (record r { at = r.at + 1 }))
   read_on k r e h = record {
     long = length-set rs k (record r { at = r.at + 1 }) ∙ stand.long;
@@ -161,7 +161,7 @@ module _ (logs : List Logged) (once : repeats (map (λ (l : Logged). l.node) log
   all_read none a = past (log_of a logs) (length (steps_of a ss)) (λ e h.
       let w = reader_of a e h in never e (sym (none w.0 w.1 (slice_get_within rs w.0 w.1 w.2) w.2) ∙ w.4))
     where
-      past : (es : List Entry) (n : ℕ) → ((e : Entry) → slice_get es n ≡ Some e → ⊥) → length es ≤ n
+      past : (es : List SeatedEntry) (n : ℕ) → ((e : SeatedEntry) → slice_get es n ≡ Some e → ⊥) → length es ≤ n
       past [] n h = omega arith
       past (e ∷ es) zero h = absurd (h e refl)
       past (e ∷ es) (suc n) h = omega (arith, past es n h)

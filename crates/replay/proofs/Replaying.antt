@@ -8,13 +8,13 @@ use Rattle.std.specs.Prelude.{All}
 use Rattle.protocol_model.specs.World.{World}
 use Rattle.term.specs.NodeSets.{set_of}
 use Rattle.cluster_world.proofs.Leftovers.{nothing_left}
-use Rattle.cluster_world.specs.Held.{Held, nodes_of}
+use Rattle.cluster_world.specs.WorldState.{WorldState, nodes_of}
 use Rattle.cluster_world.specs.Playing.{Keeps}
 use Rattle.cluster_world.specs.Seen.{names_of, opening_of, seen}
 use Rattle.node_log.specs.Openings.{repeats}
 use Rattle.cluster_world.specs.Agreeing.{AgreesAfter}
 use Rattle.cluster_world.specs.Locks.{LocksAfter}
-use Rattle.node_log.specs.Entries.{Entry, Logged}
+use Rattle.node_log.specs.Entries.{SeatedEntry, Logged}
 use Rattle.node_log.specs.declared.node_end.NodeEnd.{NodeEnd}
 use Rattle.node_log.specs.declared.transcript.Transcript.{Transcript}
 use Rattle.replay.specs.declared.faults.CloseFault.{CloseFault}
@@ -36,7 +36,7 @@ some_one : {X : Type 0} (x y : X) → Some x ≡ Some y → x ≡ y
 some_one x y e = cc
 
 -- what opened so is so still
-still_opens : (cluster lone : List ℕ) (old new : Held) → Opens cluster lone old → Keeps old new → Opens cluster lone new
+still_opens : (cluster lone : List ℕ) (old new : WorldState) → Opens cluster lone old → Keeps old new → Opens cluster lone new
 still_opens cluster lone old new O K = K.names ∙ O
 
 pub as_many : {X : Type 0} (Q : X → Type 0) (xs : List X) (n : ℕ) → n ≡ length xs → AllSuch Q xs n → AreAll Q xs
@@ -60,7 +60,7 @@ module _ (ends : List End) (ts : List Transcript) where
   table_differs w n k a at e once same L here whose long = (
     least_end_is ends (HasTableOf w) n k a e same L here whose,
     long
-        ∙ sym (ap (λ (es : List Entry). length es) (log_is (logs_of ends) once k e.log
+        ∙ sym (ap (λ (es : List SeatedEntry). length es) (log_is (logs_of ends) once k e.log
         (slice_get-map (λ (f : End). f.log) ends k ∙ ap (option_map (λ (f : End). f.log)) here)))
         ∙ ap (λ (c : ℕ). length (log_of c (logs_of ends))) whose,
   )
@@ -74,7 +74,7 @@ module _ (ends : List End) (ts : List Transcript) where
 
 module _ (cluster lone : List ℕ) (ends : List End) (ts : List Transcript) where
   -- the logs stop
-  pub stopped : (old : Held) (fault : CloseFault) → Opens cluster lone old → AreAll EndedWell ends
+  pub stopped : (old : WorldState) (fault : CloseFault) → Opens cluster lone old → AreAll EndedWell ends
       → StopsLogs fault (logs_of ends) (names_of old) → IsFault cluster lone ends ts fault
   stopped old (Torn a k) O well h = (well, inl (record { opening = old; opens = O; stuck = h }))
   stopped old (LeftInHold a) O well h = absurd h
@@ -82,7 +82,7 @@ module _ (cluster lone : List ℕ) (ends : List End) (ts : List Transcript) wher
   stopped old Memory O well h = well
 
   -- all was played
-  pub out : (old new : Held) (events : ℕ) → Opens cluster lone old → (R : RunsThrough (logs_of ends) events old new)
+  pub out : (old new : WorldState) (events : ℕ) → Opens cluster lone old → (R : RunsThrough (logs_of ends) events old new)
       → PlaysOut cluster lone (logs_of ends) R.steps new
   out old new events O R = record { opens = still_opens cluster lone old new O R.kept; merged = R.merged; run = R.run }
 
@@ -91,7 +91,7 @@ module _ (cluster lone : List ℕ) (ends : List End) (ts : List Transcript) wher
   alone n k a e same L here whose = least_end_is ends EndedWell n k a e same L here whose
 
   -- all was played and compared
-  pub replayed : (old new : Held) (events : ℕ) → Opens cluster lone old → RunsThrough (logs_of ends) events old new
+  pub replayed : (old new : WorldState) (events : ℕ) → Opens cluster lone old → RunsThrough (logs_of ends) events old new
       → AreAll EndedWell ends → AreAll (HasTableOf (seen new)) ends → AreAll (Fits (logs_of ends) ts) ts
       → Replayed cluster lone ends ts events new
   replayed old new events O R well tables fits = record {
@@ -104,7 +104,7 @@ module _ (cluster lone : List ℕ) (ends : List End) (ts : List Transcript) wher
   }
 
   -- all was played, and something differs
-  pub differs : (old new : Held) (events : ℕ) (fault : CloseFault) → Opens cluster lone old
+  pub differs : (old new : WorldState) (events : ℕ) (fault : CloseFault) → Opens cluster lone old
       → RunsThrough (logs_of ends) events old new → AreAll EndedWell ends → Differs (seen new) ends ts fault
       → IsFault cluster lone ends ts fault
   differs old new events (Torn a k) O R well D = (
@@ -127,11 +127,11 @@ module _ (cluster lone : List ℕ) (ends : List End) (ts : List Transcript) wher
   differs old new events Memory O R well D = well
 
 -- a world that was started is the run of no steps
-pub opened_run : (h : Held) → AgreesAfter [] h → LocksAfter (opening_of h) [] (seen h) → IsRun [] h
+pub opened_run : (h : WorldState) → AgreesAfter [] h → LocksAfter (opening_of h) [] (seen h) → IsRun [] h
 opened_run h A E = record { takes = tt; agrees = A; locks = E; leaves_nothing = nothing_left [] h A }
 
 -- the node of an end is one of the world
-pub of_world : {N M : Type 0} (cluster lone : List ℕ) (es : List (NodeEnd N Logged M)) (old new : Held) (events : ℕ) (logs : List Logged)
+pub of_world : {N M : Type 0} (cluster lone : List ℕ) (es : List (NodeEnd N Logged M)) (old new : WorldState) (events : ℕ) (logs : List Logged)
     → All IsFirst (cluster ++ lone) → Opens cluster lone old → RunsThrough logs events old new
     → ((c : ℕ) → set_of (map (λ (e : NodeEnd N Logged M). e.log.node) es) c ≡ set_of (cluster ++ lone) c)
     → All (λ (e : NodeEnd N Logged M). set_of (nodes_of new) e.log.node ≡ true) es

@@ -1,7 +1,7 @@
 -- Ends that are consistent: each node's is such as the node has it that is played alone.
 use Rattle.std.specs.Prelude.{ℕ, Bool, true, false, ◌≡◌, ◌++◌, List, map}
 use Rattle.registry_model.specs.Table.{Table}
-use Rattle.closings.specs.Alone.{Entry as Alone}
+use Rattle.closings.specs.Alone.{LogEntry as Alone}
 use Rattle.closings.specs.Laws.{ConsistentEnds}
 use Rattle.node_log.specs.Openings.{opening_with}
 use Rattle.node_log.specs.Entries.{Logged}

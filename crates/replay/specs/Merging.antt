@@ -1,7 +1,7 @@
 -- Logs merged into one list of steps.
 use Rattle.std.specs.Prelude.{ℕ, zero, suc, true, false, ◌<◌, ◌≡◌, Some, List, [], ◌∷◌, length}
 use Rattle.std.specs.List.{slice_get}
-use Rattle.node_log.specs.Entries.{Entry, Logged}
+use Rattle.node_log.specs.Entries.{SeatedEntry, Logged}
 use Rattle.replay.specs.Steps.{Step, steps_of, log_of, next_of, is_before}
 
 -- each step is before the next
@@ -21,9 +21,9 @@ pub record IsNext (logs : List Logged) (ss : List Step) (s : Step) : Type 0 wher
   pub least : (t : Step) → next_of t.node logs ss ≡ Some t.entry → is_before t s ≡ false
 
 -- the stamp of entry k of this log is above that of the entry before it, if there is one
-abbrev pub Rises : List Entry → ℕ → Type 0
+abbrev pub Rises : List SeatedEntry → ℕ → Type 0
 Rises es zero = Unit {0}
-Rises es (suc k) = (d e : Entry) → slice_get es k ≡ Some d → slice_get es (suc k) ≡ Some e → d.stamp < e.stamp
+Rises es (suc k) = (d e : SeatedEntry) → slice_get es k ≡ Some d → slice_get es (suc k) ≡ Some e → d.stamp < e.stamp
 
 -- behind these steps the stamp of this one rises in its log
 abbrev pub RisesBehind : List Logged → List Step → Step → Type 0

@@ -6,7 +6,7 @@ use Rattle.cluster_world.specs.NamedWorld.{NamedWorld, opening_named, named_refu
 use Rattle.node_log.specs.Events.{event_of}
 use Rattle.node_log.specs.NodeEventsSeen.{answer_of}
 use Rattle.node_log.specs.Entries.{Logged}
-use Rattle.cluster_world.specs.Held.{Held}
+use Rattle.cluster_world.specs.WorldState.{WorldState}
 use Rattle.cluster_world.specs.Seen.{names_of, opening_of, seen, named}
 use Rattle.cluster_world.specs.Agreeing.{AgreesAfter}
 use Rattle.cluster_world.specs.Locks.{LocksAfter}
@@ -30,7 +30,7 @@ TakesAll o w (s ∷ ss) = Takes o w s × TakesAll o (happens_named o w (happenin
 
 -- these steps, from its opening on, made the world what it is, and took place in it; behind them the headline and the
 -- laws of clients' locks hold, and nothing is left over
-pub record IsRun (ss : List Step) (h : Held) : Type 0 where
+pub record IsRun (ss : List Step) (h : WorldState) : Type 0 where
   pub takes : TakesAll (names_of h) (opening_named (names_of h)) ss
   pub agrees : AgreesAfter (events_in ss) h
   pub locks : LocksAfter (opening_of h) (as_events (names_of h) (events_in ss)) (seen h)

@@ -1,16 +1,16 @@
 -- How far logs were read.
 use Rattle.std.specs.Prelude.{ℕ, Bool, false, ◌≡◌, Option, Some, None, List, length}
 use Rattle.std.specs.List.{slice_get}
-use Rattle.node_log.specs.Entries.{Entry, Logged}
+use Rattle.node_log.specs.Entries.{SeatedEntry, Logged}
 use Rattle.replay.specs.declared.merge.Reader.{Reader}
 use Rattle.replay.specs.Steps.{Step, steps_of, is_before}
 
 -- what is read next, if an entry is left
-abbrev pub head_of : Reader → Option Entry
+abbrev pub head_of : Reader → Option SeatedEntry
 head_of r = slice_get r.log.now.entries r.at
 
 -- an entry as a step of the node whose log this is
-abbrev pub step_of : Reader → Entry → Step
+abbrev pub step_of : Reader → SeatedEntry → Step
 step_of r e = record { node = r.log.now.node; entry = e }
 
 -- what is read next here goes before what is read next there

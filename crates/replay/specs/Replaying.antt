@@ -2,7 +2,7 @@
 use Rattle.std.specs.Prelude.{ℕ, ◌≡◌, ◌⊎◌, List, ◌++◌, length}
 use Rattle.protocol_model.specs.World.{World}
 use Rattle.cluster_world.specs.NodeNames.{NamedOpening}
-use Rattle.cluster_world.specs.Held.{Held}
+use Rattle.cluster_world.specs.WorldState.{WorldState}
 use Rattle.cluster_world.specs.Playing.{Keeps}
 use Rattle.cluster_world.specs.Seen.{names_of, seen}
 use Rattle.cluster_world.specs.Openings.{named_opening}
@@ -18,17 +18,17 @@ use Rattle.replay.specs.Ends.{End, logs_of, is_lesser, EndedWell, HasTableOf}
 use Rattle.replay.specs.Transcripts.{Fits, has_lesser_seat}
 
 -- the world was started with these lists
-abbrev pub Opens : List ℕ → List ℕ → Held → Type 0
+abbrev pub Opens : List ℕ → List ℕ → WorldState → Type 0
 Opens cluster lone h = names_of h ≡ named_opening (cluster ++ lone) cluster
 
 -- a world that was started with these lists played the merged logs to their end
-pub record PlaysOut (cluster lone : List ℕ) (logs : List Logged) (ss : List Step) (h : Held) : Type 0 where
+pub record PlaysOut (cluster lone : List ℕ) (logs : List Logged) (ss : List Step) (h : WorldState) : Type 0 where
   pub opens : Opens cluster lone h
   pub merged : IsMerged logs ss
   pub run : IsRun ss h
 
 -- an opened world played the merged logs, so many steps, to their end
-pub record RunsThrough (logs : List Logged) (events : ℕ) (old new : Held) : Type 0 where
+pub record RunsThrough (logs : List Logged) (events : ℕ) (old new : WorldState) : Type 0 where
   pub steps : List Step
   pub count : events ≡ length steps
   pub merged : IsMerged logs steps
@@ -48,7 +48,7 @@ AreAll Q xs = AllSuch Q xs (length xs)
 
 -- the run of the threads was one of the world's: so many events made this world, whose tables are the nodes' last ones,
 -- and each seat was answered as it answered
-pub record Replayed (cluster lone : List ℕ) (ends : List End) (ts : List Transcript) (events : ℕ) (h : Held) : Type 0 where
+pub record Replayed (cluster lone : List ℕ) (ends : List End) (ts : List Transcript) (events : ℕ) (h : WorldState) : Type 0 where
   pub steps : List Step
   pub out : PlaysOut cluster lone (logs_of ends) steps h
   pub count : events ≡ length steps
@@ -64,14 +64,14 @@ pub record IsLeastEnd (Q : End → Type 0) (ends : List End) (a : ℕ) : Type 0 
 
 -- a world that was started with these lists is stuck at entry k of node a's log
 pub record StopsAt (cluster lone : List ℕ) (logs : List Logged) (a k : ℕ) : Type 0 where
-  pub opening : Held
+  pub opening : WorldState
   pub opens : Opens cluster lone opening
   pub stuck : IsStuck logs (names_of opening) a k
 
 -- all was played, and node a is the least whose table is another one; k is the length of its log
 pub record HasOtherTable (cluster lone : List ℕ) (ends : List End) (a k : ℕ) : Type 0 where
   pub steps : List Step
-  pub world : Held
+  pub world : WorldState
   pub out : PlaysOut cluster lone (logs_of ends) steps world
   pub other : IsLeastEnd (HasTableOf (seen world)) ends a
   pub place : k ≡ length (log_of a (logs_of ends))
@@ -79,7 +79,7 @@ pub record HasOtherTable (cluster lone : List ℕ) (ends : List End) (a k : ℕ)
 -- all was played, the tables are the world's, and this is the least seat with a transcript that doesn't fit
 pub record IsStranger (cluster lone : List ℕ) (ends : List End) (ts : List Transcript) (seat : ℕ) : Type 0 where
   pub steps : List Step
-  pub world : Held
+  pub world : WorldState
   pub out : PlaysOut cluster lone (logs_of ends) steps world
   pub tables : AreAll (HasTableOf (seen world)) ends
   pub place : ℕ

@@ -5,24 +5,24 @@ use Rattle.protocol_model.specs.NamedEvents.{NamedEvent}
 use Rattle.node_log.specs.declared.WorldEvent.{WorldEvent}
 use Rattle.node_log.specs.declared.WorldEvent.TheVariants.{Restart}
 use Rattle.node_log.specs.Events.{named_event}
-use Rattle.node_log.specs.Entries.{Entry, Logged}
+use Rattle.node_log.specs.Entries.{SeatedEntry, Logged}
 
 -- a step: whose it is, and its entry in that node's log
 pub record Step : Type 0 where
   pub node : ℕ
-  pub entry : Entry
+  pub entry : SeatedEntry
 
 -- the entries of node a among these steps, in order
-abbrev pub steps_of : ℕ → List Step → List Entry
+abbrev pub steps_of : ℕ → List Step → List SeatedEntry
 steps_of a ss = map (λ s. s.entry) (filter (λ s. s.node == a) ss)
 
 -- the entries of node a's log
-abbrev pub log_of : ℕ → List Logged → List Entry
+abbrev pub log_of : ℕ → List Logged → List SeatedEntry
 log_of a [] = []
 log_of a (l ∷ ls) = if l.node == a then l.entries else log_of a ls
 
 -- what node a's log has next, behind these steps
-abbrev pub next_of : ℕ → List Logged → List Step → Option Entry
+abbrev pub next_of : ℕ → List Logged → List Step → Option SeatedEntry
 next_of a logs ss = slice_get (log_of a logs) (length (steps_of a ss))
 
 -- steps are ordered by their stamps, and those of one stamp by their nodes

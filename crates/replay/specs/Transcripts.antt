@@ -5,12 +5,12 @@ use Rattle.protocol_model.specs.Event.{Answer as AnyAnswer}
 use Rattle.node_log.specs.declared.Call.{Call}
 use Rattle.node_log.specs.declared.Call.TheVariants.{Spawn, Whereis, RegisteredNames, Notices}
 use Rattle.node_log.specs.NodeEventsSeen.{answer_of}
-use Rattle.node_log.specs.declared.Event.TheVariants.{Call as Calls}
+use Rattle.node_log.specs.declared.LocalEvent.TheVariants.{Call as Calls}
 use Rattle.node_log.specs.declared.WorldEvent.{WorldEvent}
 use Rattle.node_log.specs.declared.WorldEvent.TheVariants.{At}
 use Rattle.node_log.specs.declared.transcript.SeatEntry.{SeatEntry}
 use Rattle.node_log.specs.declared.transcript.Transcript.{Transcript}
-use Rattle.node_log.specs.Entries.{Entry, Logged}
+use Rattle.node_log.specs.Entries.{SeatedEntry, Logged}
 use Rattle.replay.specs.declared.transcripts.Answering.{Answering}
 use Rattle.replay.specs.declared.transcripts.Answering.TheVariants.{AtOnce, Later, Never}
 use Rattle.replay.specs.Steps.{log_of}
@@ -42,16 +42,16 @@ numbered n _ = n
 abbrev pub answers_call : ℕ → ℕ → AnyAnswer → Bool
 answers_call a n s = (s.node == a) && (s.number == n)
 
-abbrev pub said_in : Entry → List AnyAnswer
+abbrev pub said_in : SeatedEntry → List AnyAnswer
 said_in e = map answer_of e.answers
 
 -- the first answer to call n of node a in these entries
-abbrev pub first_answer : ℕ → ℕ → List Entry → Option AnyAnswer
+abbrev pub first_answer : ℕ → ℕ → List SeatedEntry → Option AnyAnswer
 first_answer a n [] = None
 first_answer a n (e ∷ es) = elim (find (answers_call a n) (said_in e)) [ None ↦ first_answer a n es | Some s ↦ Some s ]
 
 -- the answer to an event of node a, where these entries begin with its own, and n is the number of its call
-abbrev pub answer_in : ℕ → ℕ → Answering → List Entry → Option AnyAnswer
+abbrev pub answer_in : ℕ → ℕ → Answering → List SeatedEntry → Option AnyAnswer
 answer_in a n Never es = None
 answer_in a n Later es = first_answer a n es
 answer_in a n AtOnce [] = None
@@ -63,12 +63,12 @@ is_of seat None = false
 is_of seat (Some s) = s == seat
 
 -- the event of the first of these entries, with its answer
-abbrev pub given_at : ℕ → ℕ → Entry → List Entry → Given
+abbrev pub given_at : ℕ → ℕ → SeatedEntry → List SeatedEntry → Given
 given_at a n e es = record { event = e.event; answer = answer_in a (numbered n (answering e.event)) (answering e.event) (e ∷ es) }
 
 -- what these entries of node a's log give a seat, before which the node has given n numbers: the seat's events, each
 -- with its answer
-abbrev pub given : ℕ → ℕ → ℕ → List Entry → List Given
+abbrev pub given : ℕ → ℕ → ℕ → List SeatedEntry → List Given
 given a seat n [] = []
 given a seat n (e ∷ es) =
     if is_of seat e.seat
@@ -85,7 +85,7 @@ abbrev pub given_by : SeatEntry → Given
 given_by e = record { event = e.event; answer = option_map answer_of e.answer }
 
 -- the transcript is among what the log gives, where what is left of it is among what the log gives from here on
-pub record IsLeft (a seat : ℕ) (told : List Given) (es : List Entry) (found n at : ℕ) : Type 0 where
+pub record IsLeft (a seat : ℕ) (told : List Given) (es : List SeatedEntry) (found n at : ℕ) : Type 0 where
   pub on : IsPartOf (drop found told) (given a seat n (drop at es)) → IsPartOf told (given a seat 0 es)
   pub back : IsPartOf told (given a seat 0 es) → IsPartOf (drop found told) (given a seat n (drop at es))
 

@@ -1,7 +1,7 @@
 //! What a run came to.
 ghost use Rattle.std.specs.Prelude.{◌≡◌, is_some, IfSome};
 ghost use Rattle.term.specs.NodeSets.{set_of};
-ghost use Rattle.cluster_world.specs.Held.{nodes_of};
+ghost use Rattle.cluster_world.specs.WorldState.{nodes_of};
 ghost use Rattle.cluster_world.specs.Seen.{seen};
 
 use cluster_world::{KeptEntry, World};

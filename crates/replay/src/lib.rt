@@ -13,5 +13,7 @@ mod transcripts;
 pub use closed::Closed;
 pub use cluster_world::{HistoryEntry, KeptEntry, World};
 pub use faults::CloseFault;
-pub use node_log::{Answer, Call, Event, Log, NodeEnd, Reply, SeatEntry, Transcript, WorldEvent};
+pub use node_log::{
+    Answer, Call, LocalEvent, Log, NodeEnd, Reply, SeatEntry, Transcript, WorldEvent,
+};
 pub use run::replay;

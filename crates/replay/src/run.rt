@@ -1,7 +1,7 @@
 //! Plays the logs of closed nodes on a world.
 ghost use Rattle.std.specs.Prelude.{◌≡◌, ◌++◌, ◌<◌, ℕ, [], true, false, None, Some, length, map, IfOk, IfErr, OnOk, All, slice_get};
 ghost use Rattle.term.specs.NodeSets.{set_of};
-ghost use Rattle.cluster_world.specs.Held.{nodes_of};
+ghost use Rattle.cluster_world.specs.WorldState.{nodes_of};
 ghost use Rattle.cluster_world.specs.Seen.{names_of, seen};
 ghost use Rattle.node_log.specs.Openings.{repeats, start_refused};
 ghost use Rattle.replay.specs.Consistent.{AreConsistent, is_torn};

@@ -1,7 +1,7 @@
 //! The nodes' last tables beside those of the world.
 ghost use Rattle.std.specs.Prelude.{◌≡◌, ◌<◌, true, length, map, nat_lt, All, IfOk, IfSome, MatchBool};
 ghost use Rattle.term.specs.NodeSets.{set_of};
-ghost use Rattle.cluster_world.specs.Held.{nodes_of};
+ghost use Rattle.cluster_world.specs.WorldState.{nodes_of};
 ghost use Rattle.cluster_world.specs.Seen.{seen};
 ghost use Rattle.replay.specs.Ends.{end_of, is_lesser, EndedWell, HasTableOf};
 ghost use Rattle.replay.specs.Least.{LeastOther, IsChosen};

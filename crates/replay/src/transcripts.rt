@@ -11,7 +11,8 @@ ghost use Rattle.replay.specs.Transcripts.{answering, numbered, answers_call, sa
 use crate::equal::same_outcome;
 use name_table::Names;
 use node_log::{
-    Answer, Call, Event, Log, LoggedEntry, LoggedEvent, NodeEnd, SeatEntry, Transcript, WorldEvent,
+    Answer, Call, LocalEvent, Log, LoggedEntry, LoggedEvent, NodeEnd, SeatEntry, Transcript,
+    WorldEvent,
 };
 use term::Node;
 
@@ -33,9 +34,11 @@ fn how_answered(event: &WorldEvent) -> Answering
     match event {
         WorldEvent::At(
             _,
-            Event::Call(Call::Spawn | Call::Whereis(_) | Call::RegisteredNames | Call::Notices(_)),
+            LocalEvent::Call(
+                Call::Spawn | Call::Whereis(_) | Call::RegisteredNames | Call::Notices(_),
+            ),
         ) => Answering::AtOnce,
-        WorldEvent::At(_, Event::Call(_)) => Answering::Later,
+        WorldEvent::At(_, LocalEvent::Call(_)) => Answering::Later,
         WorldEvent::At(_, _) | WorldEvent::Deliver(_, _) | WorldEvent::Restart(_) => {
             Answering::Never
         }

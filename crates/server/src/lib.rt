@@ -4,16 +4,16 @@
 mod attending;
 mod covering;
 mod ending;
-mod entry;
 mod faults;
+mod listener;
 mod served;
 mod serving;
 mod staying;
 mod taking;
 
 pub use console::Cookie;
-pub use entry::Entry;
 pub use faults::{ServeFault, StayFault};
+pub use listener::Listener;
 pub use node_threads::{
     Call, Cluster, NodeStatus, Numbers, OpenGate, Reply, Seat, SeatFault, StartFault, StepFault,
     Transcript,

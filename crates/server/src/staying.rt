@@ -20,8 +20,8 @@ pub(crate) mod stream;
 mod worker;
 
 use crate::ending::end_line;
-use crate::entry::Entry;
 use crate::faults::StayFault;
+use crate::listener::Listener;
 use crate::serving::{YIELDS, set_of_all};
 use crate::staying::descriptors::shortage;
 use crate::staying::desk::{StayingCluster, stay, tell_if};
@@ -111,7 +111,7 @@ where
 fn hire<R>(
     rt: &R,
     alloc: Global,
-    entry: Entry,
+    listener: Listener,
     cluster: &mut StayingCluster,
     nodes: &NodeSet,
     options: StayOptions,
@@ -122,7 +122,15 @@ where
     ensures served { IfOk result (λ staff. Serve nodes.now staff.threads.items) }
 {
     let seats = Seats::of(alloc, cluster, nodes, workers_for(options.consoles))?;
-    let staff = Staff::start(rt, alloc, entry, nodes.copy(), seats, options, resident(rt))?;
+    let staff = Staff::start(
+        rt,
+        alloc,
+        listener,
+        nodes.copy(),
+        seats,
+        options,
+        resident(rt),
+    )?;
     Ok(staff)
 }
 
@@ -142,7 +150,7 @@ where
 pub fn run_stay<R, W, E>(
     rt: &R,
     alloc: Global,
-    entry: Entry,
+    listener: Listener,
     cluster: &[NodeName],
     lone: &[NodeName],
     options: StayOptions,
@@ -163,8 +171,8 @@ where
         return Err(StayFault::Start);
     };
     let nodes = set_of_all(cluster, lone);
-    let short = shortage(entry.fd(), options.consoles);
-    match hire(rt, alloc, entry, &mut running, &nodes, options) {
+    let short = shortage(listener.fd(), options.consoles);
+    match hire(rt, alloc, listener, &mut running, &nodes, options) {
         Ok(staff) => {
             tell_if(alloc, errors, short);
             serve(rt, alloc, running, &nodes, staff, listening, writer, errors)

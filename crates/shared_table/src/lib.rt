@@ -16,9 +16,9 @@ pub use chute::{Chute, Stamped};
 pub use idle::{Idle, IdleReaders};
 pub use kept::KeptPublisher;
 pub use node_books::{
-    Answer, Call, Edit, Edition, Effect, Event, Item, Moment, NameList, NodeEnd, NodeLoop, Nodes,
-    Notice, NoticeList, Numbers, Past, Record, Reply, Retries, ScribeFault, SeatEntry, StepFault,
-    Task, TaskFault, TaskReply, Ticket, Token, Transcript, Update, WorldEvent,
+    Answer, Call, Edit, Edition, Effect, Item, LocalEvent, Moment, NameList, NodeEnd, NodeLoop,
+    Nodes, Notice, NoticeList, Numbers, Past, Record, Reply, Retries, ScribeFault, SeatEntry,
+    StepFault, Task, TaskFault, TaskReply, Ticket, Token, Transcript, Update, WorldEvent,
 };
 pub use publisher::{LastTable, Publisher};
 pub use reader::{Lookup, TableReader};

@@ -1,7 +1,7 @@
 //! Tables that are refused memory.
 ghost use Rattle.std.specs.Prelude.{◌≡◌};
 
-use name_table::{Change, Entry, ListTable, Names, Pair};
+use name_table::{Change, ListTable, Names, Pair, Registration};
 use std::alloc::{AllocError, Allocator, Global};
 use term::{Name, Node, Pid};
 
@@ -34,7 +34,7 @@ impl Names for Stubborn {
         }
     }
 
-    fn get(&self, name: &Name) -> Option<Entry> {
+    fn get(&self, name: &Name) -> Option<Registration> {
         self.list.get(name)
     }
 

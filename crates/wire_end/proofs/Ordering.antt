@@ -28,7 +28,7 @@ use Rattle.wire_end.specs.Sending.{letter_text}
 use Rattle.wire_end.specs.Wirings.{place, new_wire, wire_at, wire_if, link_with, with_lines_at, kept, printed, IsReadAgain, Posts, Takes, begun}
 use Rattle.wire_end.specs.Saying.{present, is_said}
 use Rattle.wire_end.specs.Starting.{Starts, is_alone, with_started, opened_anew}
-use Rattle.node_loop.specs.NodeCoreHeld.{IsNext}
+use Rattle.node_loop.specs.NodeCoreState.{IsNext}
 use Rattle.term.specs.Nodes.{name_of}
 use Rattle.wire_end.proofs.Places.{at-place, link-set_same, link-set_other, new-unused, replaced-set, linked_stays, link_apart, link_next, link_none, link_gone, next_linked, replaced_apart, replaced_before, replaced_behind}
 

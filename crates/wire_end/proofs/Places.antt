@@ -11,7 +11,7 @@ use Rattle.std.specs.List.{position_or_len}
 use Rattle.letter_lines.specs.Gathered.{nothing}
 use Rattle.wire_end.specs.declared.wire.Wire.{Wire}
 use Rattle.term.specs.Nodes.{name_of}
-use Rattle.node_loop.specs.NodeCoreHeld.{IsNext}
+use Rattle.node_loop.specs.NodeCoreState.{IsNext}
 use Rattle.wire_end.specs.Order.{has_younger, is_replaced}
 use Rattle.wire_end.specs.Starting.{opened_anew}
 use Rattle.wire_end.specs.Wirings.{place, wire_at, wire_if, link_with, new_wire}

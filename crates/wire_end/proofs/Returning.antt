@@ -29,7 +29,7 @@ use Rattle.lock_answers.specs.ClientLocks.{ClientLocks}
 use Rattle.lock_answers.specs.Leftovers.{NothingIsLeft}
 use Rattle.term.specs.NodeSets.{set_of, with_older}
 use Rattle.node_loop.specs.Seen.{seen_entry}
-use Rattle.node_loop.specs.Alone.{Entry, Stamped as StampedLetter, Made, Reads, Does, Plays, StartsAbove, AreConsistent, letters_to, sent, unread_after, node_behind}
+use Rattle.node_loop.specs.Alone.{LogEntry, Stamped as StampedLetter, Made, Reads, Does, Plays, StartsAbove, AreConsistent, letters_to, sent, unread_after, node_behind}
 use Rattle.node_loop.specs.Guarded.{Begins}
 use Rattle.node_loop.specs.Dealings.{took, put}
 use Rattle.node_loop.specs.declared.item.Stamped.{Stamped}
@@ -54,7 +54,7 @@ notices_made n stamp T (d ∷ ds) = record {
 notices_entries : (n stamp : ℕ) (T : Nodes) (ds : List ℕ) → map (λ (m : Made). m.entry) (notices_made n stamp T ds) ≡ notices_from n stamp ds
 notices_entries n stamp T [] = refl
 notices_entries n stamp T (d ∷ ds) =
-    ap (λ (es : List Entry). record { stamp = stamp + 1; event = WorldEvent.Deliver d n; answers = [] } ∷ es)
+    ap (λ (es : List LogEntry). record { stamp = stamp + 1; event = WorldEvent.Deliver d n; answers = [] } ∷ es)
     (notices_entries n (stamp + 1) (with_node d T) ds)
 
 notices_send : (n stamp t : ℕ) (T : Nodes) (ds : List ℕ) → sent t (notices_made n stamp T ds) ≡ []
@@ -394,7 +394,7 @@ module _ (o : NamedOpening) (ran : Nodes) (programs : ℕ → Program) (A : AreP
       go false e = none_yet (in_cluster O n)
 
   -- each entry of a log is one of a node that ran, and names no other
-  abbrev IsOfStarted : ℕ → Entry → Type 0
+  abbrev IsOfStarted : ℕ → LogEntry → Type 0
   IsOfStarted n e = (ran n ≡ true) × (ran (other e.event) ≡ true)
 
   notices_started : (n stamp : ℕ) → ran n ≡ true → (ds : List ℕ) → ((d : ℕ) → Contains ds d → ran d ≡ true)
@@ -408,7 +408,7 @@ module _ (o : NamedOpening) (ran : Nodes) (programs : ℕ → Program) (A : AreP
   logs_started n true r = All-append (IsOfStarted n) (notices_of o n (programs n)) (map seen_entry (programs n).log.entries)
       (notices_started n (first_stamp n) r (gone_before n)
       (λ d i. A.gone_ran d n r ((left_listed o A.numbers (programs n).left (A.lefts n r) d).0 i)))
-      (All-weaker (λ (e : Entry). ran (other e.event) ≡ true) (IsOfStarted n) (λ e h. (r, h)) (map seen_entry (programs n).log.entries)
+      (All-weaker (λ (e : LogEntry). ran (other e.event) ≡ true) (IsOfStarted n) (λ e h. (r, h)) (map seen_entry (programs n).log.entries)
       (A.contacts n r))
   logs_started n false r = All-nil (IsOfStarted n)
 

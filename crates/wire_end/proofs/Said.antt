@@ -14,7 +14,7 @@ use Rattle.letter_lines.specs.declared.part.Part.{Part}
 use Rattle.letter_lines.specs.declared.part.Part.TheVariants as part
 use Rattle.letter_lines.specs.Gathered.{Gathered, Taken, Takes, taken, kept, kept_where, ends_where, has_room, is_nothing, is_of_pairs, is_for_members, is_for_joiner, settled_of, fate_of}
 use Rattle.letter_lines.specs.Letters.{letter_of}
-use Rattle.node_loop.specs.NodeCoreHeld.{HaveStarted}
+use Rattle.node_loop.specs.NodeCoreState.{HaveStarted}
 use Rattle.node_loop.specs.NodeCoreSteps.{IsSaidBy}
 use Rattle.wire_end.specs.Saying.{all_started, greets, is_said, is_said_by}
 

@@ -18,7 +18,7 @@ use Rattle.lock_answers.specs.Leftovers.{NothingIsLeft}
 use Rattle.term.specs.Nodes.{text_in, name_of, creation_of}
 use Rattle.term.specs.NodeSets.{IsNodeSet, set_of, with_older}
 use Rattle.node_loop.specs.Seen.{seen_entry}
-use Rattle.node_loop.specs.Alone.{Entry, Stamped as StampedLetter, sent}
+use Rattle.node_loop.specs.Alone.{LogEntry, Stamped as StampedLetter, sent}
 use Rattle.node_loop.specs.Held.{Written}
 use Rattle.node_loop.specs.Returning.{Start, TellsFrom}
 use Rattle.node_loop.specs.declared.item.Stamped.{Stamped}
@@ -56,12 +56,12 @@ all_left o left = flat_map (λ d. first_nodes o (text_in d) (creation_of d)) lef
 
 -- What a node does when it starts, before any step of its program: it reads of each of these that it has left, by steps with stamps behind this
 -- one. That is what a restart is there
-abbrev pub notices_from : ℕ → ℕ → List ℕ → List Entry
+abbrev pub notices_from : ℕ → ℕ → List ℕ → List LogEntry
 notices_from n stamp [] = []
 notices_from n stamp (d ∷ ds) =
     record { stamp = stamp + 1; event = WorldEvent.Deliver d n; answers = [] } ∷ notices_from n (stamp + 1) ds
 
-abbrev pub notices_of : NamedOpening → ℕ → Program → List Entry
+abbrev pub notices_of : NamedOpening → ℕ → Program → List LogEntry
 notices_of o n p = notices_from n (p.stamp - count_left p.left) (all_left o p.left)
 
 -- of these letters there is one: that its sender has left, by a step with no greater stamp
@@ -96,7 +96,7 @@ pub record ArePrograms (o : NamedOpening) (ran : Nodes) (programs : ℕ → Prog
   pub read : (f t : ℕ) → ran f ≡ true → ran t ≡ true → (f ≡ t → ⊥)
       → Begin (of_node f (programs t).end.read) (of_node t (lines_out (programs f).end))
   pub strange : (f t : ℕ) → ran f ≡ false → ran t ≡ true → of_node f (programs t).end.read ≡ []
-  pub contacts : (n : ℕ) → ran n ≡ true → All (λ (e : Entry). ran (other e.event) ≡ true) (map seen_entry (programs n).log.entries)
+  pub contacts : (n : ℕ) → ran n ≡ true → All (λ (e : LogEntry). ran (other e.event) ≡ true) (map seen_entry (programs n).log.entries)
   pub lefts : (n : ℕ) → ran n ≡ true → AreLastOnes (programs n).left
   pub room : (n : ℕ) → ran n ≡ true → count_left (programs n).left ≤ (programs n).stamp
   pub gone_ran : (d n : ℕ) → ran n ≡ true → with_older (programs n).left d ≡ true → ran d ≡ true
@@ -107,7 +107,7 @@ pub record ArePrograms (o : NamedOpening) (ran : Nodes) (programs : ℕ → Prog
   pub once : (d n : ℕ) → ran n ≡ true → with_older (programs n).left d ≡ true → of_node d (programs n).end.taken ≡ []
 
 -- the log of each node: the notices of its start, and then the steps of its program; and its table
-abbrev pub log_of : NamedOpening → ℕ → Bool → Program → List Entry
+abbrev pub log_of : NamedOpening → ℕ → Bool → Program → List LogEntry
 log_of o n ran p = if ran then notices_of o n p ++ map seen_entry p.log.entries else []
 
 abbrev pub table_of : Bool → Program → Table
@@ -115,7 +115,7 @@ table_of ran p = if ran then p.table else []
 
 -- The logs of all have one run, which the world of the nodes of all creations plays to its end, with these tables; and behind it holds what holds
 -- behind each run of a world in which some nodes never start: of those that ran
-pub record PlayByName (o : NamedOpening) (ran : Nodes) (logs : ℕ → List Entry) (tables : ℕ → Table) : Type 0 where
+pub record PlayByName (o : NamedOpening) (ran : Nodes) (logs : ℕ → List LogEntry) (tables : ℕ → Table) : Type 0 where
   pub run : HasARun (opening_of o) logs tables
   pub agrees : Agrees (of_started (opening_of o) ran) (events_in run.steps) (world_behind (opening_of o) run.steps)
   pub locks : ClientLocks (of_started (opening_of o) ran) (events_in run.steps) (world_behind (opening_of o) run.steps)

@@ -8,7 +8,7 @@ use Rattle.closing_runs.specs.Merging.{events_in, world_behind}
 use Rattle.lock_answers.specs.Worlds.{of_nodes, Agrees}
 use Rattle.lock_answers.specs.ClientLocks.{ClientLocks}
 use Rattle.lock_answers.specs.Leftovers.{NothingIsLeft}
-use Rattle.node_loop.specs.Alone.{Entry}
+use Rattle.node_loop.specs.Alone.{LogEntry}
 use Rattle.node_loop.specs.Seen.{seen_entry}
 use Rattle.node_loop.specs.Held.{Written}
 use Rattle.node_loop.specs.Telling.{AllTell}
@@ -39,7 +39,7 @@ pub record AreLinked (o : Opening) (printed : ℕ → List ℕ) (ends : ℕ → 
       → Begin (of_node f (ends t).read) (of_node t (lines_out (ends f)))
 
 -- the logs have one run, which the world plays to its end, with these tables; and behind it holds what holds behind each run of a world
-pub record PlayAsOne (o : Opening) (logs : ℕ → List Entry) (tables : ℕ → Table) : Type 0 where
+pub record PlayAsOne (o : Opening) (logs : ℕ → List LogEntry) (tables : ℕ → Table) : Type 0 where
   pub run : HasARun o logs tables
   pub agrees : Agrees (of_nodes o) (events_in run.steps) (world_behind o run.steps)
   pub locks : ClientLocks (of_nodes o) (events_in run.steps) (world_behind o run.steps)

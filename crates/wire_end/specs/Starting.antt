@@ -2,7 +2,7 @@
 use Rattle.std.specs.Prelude.{ℕ, Bool, true, ◌≡◌, ◌==◌, ◌&&◌, ◌||◌, not, is_some, map, if◌then◌else◌}
 use Rattle.std.specs.List.{list_all}
 use Rattle.term.specs.Nodes.{name_of}
-use Rattle.node_loop.specs.NodeCoreHeld.{IsNext}
+use Rattle.node_loop.specs.NodeCoreState.{IsNext}
 use Rattle.wire_end.specs.declared.wire.Wire.{Wire}
 use Rattle.wire_end.specs.declared.wire_end.Wiring.{Wiring}
 use Rattle.wire_end.specs.Wirings.{place, new_wire}

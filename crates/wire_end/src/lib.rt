@@ -20,5 +20,5 @@ pub use laws::{
 pub use letter_lines::{Letter, LetterFault, Part};
 pub use line::LinkLine;
 pub use link::{Inbox, Post};
-pub use node_loop::{Event, Item, Stamped, Task};
+pub use node_loop::{Item, LocalEvent, Stamped, Task};
 pub use wire_end::{WireEnd, Wiring};

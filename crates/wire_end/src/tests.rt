@@ -1,5 +1,7 @@
 //! An end of lines: letters that come in and go out as lines.
-use crate::{Event, HearFault, Inbox, Item, Letter, LinkLine, Part, Post, Stamped, Task, WireEnd};
+use crate::{
+    HearFault, Inbox, Item, Letter, LinkLine, LocalEvent, Part, Post, Stamped, Task, WireEnd,
+};
 use std::alloc::{AllocError, Global};
 use std::test::Fail;
 use term::{Node, NodeSet, parse_node_name, parse_nodes};
@@ -82,7 +84,7 @@ fn letters_go_out_as_lines(rt: HostRuntime) -> Result<(), Fail> {
 #[test]
 fn tasks_wait(rt: HostRuntime) -> Result<(), Fail> {
     let mut end = end_of_a(rt.alloc())?;
-    let event = Event::Leave;
+    let event = LocalEvent::Leave;
     end.ask(Task {
         ticket: None,
         event,

@@ -13,7 +13,7 @@ use crate::wire::Wire;
 use letter_lines::{Letter, Part};
 use link::{Inbox, LinkFault, Post, Station, Unsent};
 use node_loop::{Item, Stamped, Task};
-use past::Log as History;
+use past::Trace as History;
 use std::alloc::{AllocError, Global};
 use std::collections::{LinkedList, VecDeque};
 use std::marker::Model;

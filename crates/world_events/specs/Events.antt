@@ -10,32 +10,32 @@ use Rattle.node_core.specs.declared.Call.TheVariants.{Join as JoinBy}
 use Rattle.node_core.specs.declared.Event.{Event as NodeEvent}
 use Rattle.node_core.specs.declared.Event.TheVariants as at_node
 use Rattle.node_core.specs.NodeEventsSeen.{call_of}
-use Rattle.world_events.specs.declared.events.Event.{Event}
-use Rattle.world_events.specs.declared.events.Event.TheVariants.{Call, Retry, Exit, Leave}
+use Rattle.world_events.specs.declared.events.LocalEvent.{LocalEvent}
+use Rattle.world_events.specs.declared.events.LocalEvent.TheVariants.{Call, Retry, Exit, Leave}
 use Rattle.world_events.specs.declared.events.WorldEvent.{WorldEvent}
 use Rattle.world_events.specs.declared.events.WorldEvent.TheVariants.{At, Deliver, Restart}
 
 -- as the node has it
-abbrev pub node_event : Event → NodeEvent
+abbrev pub node_event : LocalEvent → NodeEvent
 node_event (Call c) = at_node.Call c
 node_event Retry = at_node.Retry
 node_event (Exit p) = at_node.Exit p
 node_event Leave = at_node.Leave
 
 -- as the protocol's node has it
-abbrev pub own_event_of : Event → AnyEvent
+abbrev pub own_event_of : LocalEvent → AnyEvent
 own_event_of (Call c) = AnyEvent.Calling (call_of c)
 own_event_of Retry = AnyEvent.Retry
 own_event_of (Exit p) = AnyEvent.Exiting p
 own_event_of Leave = AnyEvent.Leave
 
 -- the contact of the event is one of these nodes or older than one of its name, if it has one
-abbrev pub knows_contact : List ℕ → Event → Bool
+abbrev pub knows_contact : List ℕ → LocalEvent → Bool
 knows_contact nodes (Call (JoinBy m)) = with_older nodes m
 knows_contact nodes _ = true
 
 -- the node leaves
-abbrev pub is_leave : Event → Bool
+abbrev pub is_leave : LocalEvent → Bool
 is_leave Leave = true
 is_leave _ = false
 

@@ -1,5 +1,5 @@
 pub use Rattle.node_core.specs.Causes as NodeCoreCauses
-pub use Rattle.node_core.specs.Held as NodeCoreHeld
+pub use Rattle.node_core.specs.CoreState as NodeCoreState
 pub use Rattle.node_core.specs.Made as NodeCoreMade
 pub use Rattle.node_core.specs.NodeEventsSeen
 pub use Rattle.node_core.specs.Seen as NodeCoreSeen

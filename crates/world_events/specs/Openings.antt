@@ -5,7 +5,7 @@ use Rattle.term.specs.NodeSets.{set_of}
 use Rattle.term.specs.declared.limits.TheConstants.{MOST_NODES}
 use Rattle.std.specs.List.{All}
 use Rattle.term.specs.Nodes.{IsFirst}
-use Rattle.node_core.specs.Held.{Held as Core, AreOf, bound_of, fresh}
+use Rattle.node_core.specs.CoreState.{CoreState, AreOf, bound_of, fresh}
 use Rattle.world_events.specs.declared.opening.StartFault.{StartFault}
 use Rattle.world_events.specs.declared.opening.StartFault.TheVariants.{NoNode, SameNode, TooManyNodes, Memory}
 
@@ -24,7 +24,7 @@ abbrev pub opening_with : List ℕ → List ℕ → AnyOpening
 opening_with nodes cluster = record { bound = bound_of nodes; nodes = set_of nodes; cluster = set_of cluster }
 
 -- the core that a node opens with: one of the cluster has its nodes as members, and a lone node itself
-abbrev pub opening_core : List ℕ → List ℕ → ℕ → Core
+abbrev pub opening_core : List ℕ → List ℕ → ℕ → CoreState
 opening_core nodes cluster a = if set_of cluster a then fresh a nodes cluster true else fresh a nodes (a ∷ []) false
 
 -- some node stands twice in the list

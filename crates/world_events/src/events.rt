@@ -8,7 +8,7 @@ use term::{Node, NodeName, NodeSet, Pid};
 
 /// What may happen at a node, beside the delivery of a letter.
 #[derive(Debug, PartialEq, Eq, Drop)]
-pub enum Event {
+pub enum LocalEvent {
     /// A client calls.
     Call(Call),
     /// The operation whose round was refused asks again, and so does each lock call whose round was.
@@ -19,16 +19,16 @@ pub enum Event {
     Leave,
 }
 
-impl Event {
+impl LocalEvent {
     /// The event as the node's core takes it.
     pub fn cause(&self) -> Cause<'_>
         ensures { event_by result ≡ node_event self.now }
     {
         match self {
-            Event::Call(call) => Cause::Call(call),
-            Event::Retry => Cause::Retry,
-            Event::Exit(process) => Cause::Exit(process),
-            Event::Leave => Cause::Leave,
+            LocalEvent::Call(call) => Cause::Call(call),
+            LocalEvent::Retry => Cause::Retry,
+            LocalEvent::Exit(process) => Cause::Exit(process),
+            LocalEvent::Leave => Cause::Leave,
         }
     }
 
@@ -36,7 +36,7 @@ impl Event {
     pub fn is_leave(&self) -> bool
         ensures { result ≡ is_leave self.now }
     {
-        matches!(self, Event::Leave)
+        matches!(self, LocalEvent::Leave)
     }
 
     /// Whether the contact of the event is among these nodes or older than one of its name, if it has one.
@@ -44,7 +44,7 @@ impl Event {
         ensures { result ≡ knows_contact nodes.now self.now }
     {
         match self {
-            Event::Call(Call::Join(contact)) => nodes.reaches(contact),
+            LocalEvent::Call(Call::Join(contact)) => nodes.reaches(contact),
             _ => true,
         }
     }
@@ -54,7 +54,7 @@ impl Event {
 #[derive(Debug, PartialEq, Eq, Drop)]
 pub enum WorldEvent {
     /// An event at a node.
-    At(Node, Event),
+    At(Node, LocalEvent),
     /// The oldest letter from the nodes of the first name to the present node of the second is delivered.
     Deliver(NodeName, NodeName),
     /// A name comes back: its next node starts, and is told of all nodes that have left.

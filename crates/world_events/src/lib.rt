@@ -5,7 +5,7 @@ mod events;
 mod opening;
 mod refusal;
 
-pub use events::{Event, WorldEvent};
+pub use events::{LocalEvent, WorldEvent};
 pub use name_table::Names;
 pub use node_core::{
     Answer, Call, Cause, Entry, Letter, Look, NameCall, NameList, NodeCore, Nodes, Notice,

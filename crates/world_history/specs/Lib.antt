@@ -1,4 +1,4 @@
 pub mod KeptTexts
 pub mod Kept
 pub mod Histories
-pub mod Held
+pub mod HistoryState

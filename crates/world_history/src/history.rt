@@ -25,9 +25,9 @@ pub struct History {
 impl Model for History {
     ghost use Rattle.std.specs.Prelude.{◌-◌, min};
     ghost use Rattle.std.specs.Vec.{vec_len, vec_capacity};
-    ghost use Rattle.world_history.specs.Held.{Held};
+    ghost use Rattle.world_history.specs.HistoryState.{HistoryState};
 
-    ghost Value = { Held };
+    ghost Value = { HistoryState };
 
     ghost view = { λ h. record {
       entries = h.entries.items;

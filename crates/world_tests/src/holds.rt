@@ -1,6 +1,6 @@
 //! When a node may leave: at each moment of some scripts, but in its hold of the global lock.
 use crate::worlds::{Cluster, ENOUGH, NOTHING, Scene, event_of, is_held, is_so, is_written};
-use cluster_world::{Event, Refusal, StepFault, WorldEvent};
+use cluster_world::{LocalEvent, Refusal, StepFault, WorldEvent};
 use std::alloc::Global;
 use term::{Node, parse_node};
 
@@ -52,7 +52,7 @@ fn is_alone(world: &Cluster, node: &Node) -> bool {
 /// Whether a node may leave exactly where it doesn't hold the lock.
 fn leaves_out_of_hold(world: &mut Cluster, node: &Node) -> bool {
     let is_held = is_held(world, node);
-    match world.play(&WorldEvent::At(node.copy(), Event::Leave)) {
+    match world.play(&WorldEvent::At(node.copy(), LocalEvent::Leave)) {
         Ok(_) => !is_held,
         Err(refusal) => is_held && refusal == Refusal::Step(StepFault::HoldsLock),
     }

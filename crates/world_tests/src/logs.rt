@@ -1,6 +1,6 @@
 //! A log of a few steps.
 use node_log::{LoggedEntry, LoggedEvent};
-use replay::{Answer, Call, Event, Log, Reply, WorldEvent};
+use replay::{Answer, Call, LocalEvent, Log, Reply, WorldEvent};
 use std::alloc::Global;
 use term::{Node, NodeSet, Pid, parse_node, parse_nodes};
 
@@ -29,7 +29,7 @@ fn answers(alloc: Global, log: &mut Log, answer: Answer) -> bool {
 
 /// Puts the spawn of a process from seat 3 at the end of a node's log, and two deliveries, of which the second is taken back.
 fn logs(alloc: Global, log: &mut Log, a: &Node, b: &Node) -> bool {
-    let spawn = WorldEvent::At(b.copy(), Event::Call(Call::Spawn));
+    let spawn = WorldEvent::At(b.copy(), LocalEvent::Call(Call::Spawn));
     if log.begin(1, Some(3), spawn).is_err()
         || !answers(alloc, log, spawned(b))
         || log.begin_delivery(4, a).is_err()
@@ -44,7 +44,7 @@ fn logs(alloc: Global, log: &mut Log, a: &Node, b: &Node) -> bool {
 /// Whether a step is the spawn.
 fn is_spawn(entry: LoggedEntry<'_>, node: &Node) -> bool {
     let is_call = match entry.event {
-        LoggedEvent::Other(WorldEvent::At(at, Event::Call(Call::Spawn))) => *at == *node,
+        LoggedEvent::Other(WorldEvent::At(at, LocalEvent::Call(Call::Spawn))) => *at == *node,
         _ => false,
     };
     is_call

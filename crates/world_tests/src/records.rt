@@ -1,5 +1,5 @@
 //! The same steps in a log and in a record that keeps none.
-use node_log::{Call, Event, ForgottenLog, Log, Record, WorldEvent};
+use node_log::{Call, ForgottenLog, LocalEvent, Log, Record, WorldEvent};
 use std::alloc::Global;
 use term::{Node, NodeSet, parse_node, parse_nodes};
 
@@ -9,7 +9,11 @@ fn counts_both<L: Record>(alloc: Global, world: &NodeSet, a: &Node, b: &Node) ->
     if record.count() != 0 || record.reserve().is_err() {
         return false;
     }
-    record.put(1, None, WorldEvent::At(a.copy(), Event::Call(Call::Spawn)));
+    record.put(
+        1,
+        None,
+        WorldEvent::At(a.copy(), LocalEvent::Call(Call::Spawn)),
+    );
     record.answer(Vec::new(alloc));
     if record.count() != 1 || record.reserve().is_err() {
         return false;

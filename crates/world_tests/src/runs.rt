@@ -1,10 +1,10 @@
 //! Runs of a node that is alone in its cluster, and what tears them. One function owns what a run left behind; what is logged, told and looked
 //! at borrows it, since a proof grows with what may be dropped where a function ends.
 use crate::names::first_name;
-use name_table::{Change, Entry, ListTable, Names, Pair};
+use name_table::{Change, ListTable, Names, Pair, Registration};
 use node_log::{Notice, NoticeList};
 use replay::{
-    Answer, Call, CloseFault, Closed, Event, Log, NodeEnd, Reply, SeatEntry, Transcript,
+    Answer, Call, CloseFault, Closed, LocalEvent, Log, NodeEnd, Reply, SeatEntry, Transcript,
     WorldEvent, replay,
 };
 use std::alloc::Global;
@@ -87,7 +87,7 @@ fn new_end(alloc: Global, node: &Node) -> NodeEnd<Table> {
 
 /// The event of a call.
 fn call_at(node: &Node, call: Call) -> WorldEvent {
-    WorldEvent::At(node.copy(), Event::Call(call))
+    WorldEvent::At(node.copy(), LocalEvent::Call(call))
 }
 
 /// The event that registers a name for its owner.
@@ -263,7 +263,7 @@ impl Told {
 
 /// Whether the name has its owner and its rule where a run ended, and the run a history.
 fn is_owned(closed: &Closed<Table>, pair: &Pair) -> bool {
-    let entry = Entry {
+    let entry = Registration {
         owner: pair.owner.copy(),
         rule: pair.rule,
     };

@@ -1,13 +1,13 @@
 //! Work under the locks of a world's clients.
 use crate::worlds::{Cluster, Scene, is_so, is_text};
-use cluster_world::{Event, Refusal, SeatFault, StepFault, WorldEvent, WorldSeat};
+use cluster_world::{LocalEvent, Refusal, StepFault, WorldEvent, WorldSeat, WorldSeatFault};
 use name_table::ListTable;
 use std::alloc::Global;
 use term::{LockId, Pid, parse_pid, parse_requester, parse_resource};
 use transaction::{LockSeat, Nodes, Outcome, Retries, TransFault, trans};
 
 /// What work under a lock comes to.
-type Worked = Result<Outcome<u32>, TransFault<u32, SeatFault>>;
+type Worked = Result<Outcome<u32>, TransFault<u32, WorldSeatFault>>;
 
 /// The lock of a requester on the resource `r`.
 fn lock(requester: &str) -> Option<LockId> {
@@ -22,7 +22,7 @@ fn lock(requester: &str) -> Option<LockId> {
 
 /// A process dies.
 fn kill(world: &mut Cluster, process: &Pid) {
-    let exit = Event::Exit(process.copy());
+    let exit = LocalEvent::Exit(process.copy());
     let _ = world.play(&WorldEvent::At(process.node.copy(), exit));
 }
 
@@ -48,9 +48,9 @@ fn word(worked: &Worked) -> &'static str {
     match worked {
         Ok(Outcome::Done(7)) => "seven",
         Ok(Outcome::Aborted) => "aborted",
-        Err(TransFault::Set(SeatFault::NoAnswer)) => "no_answer",
-        Err(TransFault::Set(SeatFault::Refused(Refusal::Step(StepFault::Busy(_))))) => "busy",
-        Err(TransFault::Del(SeatFault::Refused(Refusal::Step(StepFault::NotLive(_))), 7)) => {
+        Err(TransFault::Set(WorldSeatFault::NoAnswer)) => "no_answer",
+        Err(TransFault::Set(WorldSeatFault::Refused(Refusal::Step(StepFault::Busy(_))))) => "busy",
+        Err(TransFault::Del(WorldSeatFault::Refused(Refusal::Step(StepFault::NotLive(_))), 7)) => {
             "not_live"
         }
         _ => "other",
@@ -111,14 +111,14 @@ fn loses_the_lock_with_its_holder(rt: HostRuntime) {
 }
 
 /// Whether a fault is shown so.
-fn is_shown(alloc: Global, fault: &SeatFault, wanted: &str) -> bool {
+fn is_shown(alloc: Global, fault: &WorldSeatFault, wanted: &str) -> bool {
     is_text(format!(in alloc; "{fault}"), wanted)
 }
 
 #[test]
 fn names_what_gets_no_reply(rt: HostRuntime) {
-    let refused = SeatFault::Refused(Refusal::Step(StepFault::Reserved));
+    let refused = WorldSeatFault::Refused(Refusal::Step(StepFault::Reserved));
     assert!(rt; is_shown(rt.alloc(), &refused, "reserved"));
-    assert!(rt; is_shown(rt.alloc(), &SeatFault::NoMemory, "no_memory"));
-    assert!(rt; is_shown(rt.alloc(), &SeatFault::NoAnswer, "no_answer"));
+    assert!(rt; is_shown(rt.alloc(), &WorldSeatFault::NoMemory, "no_memory"));
+    assert!(rt; is_shown(rt.alloc(), &WorldSeatFault::NoAnswer, "no_answer"));
 }

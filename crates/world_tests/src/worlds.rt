@@ -2,10 +2,10 @@
 //! what may be dropped where a function ends.
 use crate::{holds, seats};
 use cluster_world::{
-    Call, Event, HistoryEntry, Look, NameCall, Refusal, Reply, StartFault, StepFault, World,
+    Call, HistoryEntry, LocalEvent, Look, NameCall, Refusal, Reply, StartFault, StepFault, World,
     WorldEvent,
 };
-use command_lines::{Task, read_task};
+use command_lines::{LineCommand, read_command};
 use name_table::{ListTable, Names, Pair};
 use std::alloc::{AllocError, Global};
 use term::{
@@ -70,19 +70,19 @@ fn settle(world: &mut Cluster) -> bool {
     false
 }
 
-/// The event that a task asks for, if it asks for one, in a world of first nodes.
-fn event_in(task: Task) -> Option<WorldEvent> {
-    match task {
-        Task::Play(event) => Some(event),
-        Task::At(name, event) => Some(WorldEvent::At(Node::first(name), event)),
+/// The event that a command asks for, if it asks for one, in a world of first nodes.
+fn event_in(command: LineCommand) -> Option<WorldEvent> {
+    match command {
+        LineCommand::Play(event) => Some(event),
+        LineCommand::At(name, event) => Some(WorldEvent::At(Node::first(name), event)),
         _ => None,
     }
 }
 
 /// The event that a line asks for.
 fn event_on(alloc: Global, line: &Line) -> Option<WorldEvent> {
-    match read_task(alloc, line) {
-        Ok(task) => event_in(task),
+    match read_command(alloc, line) {
+        Ok(command) => event_in(command),
         Err(_) => None,
     }
 }
@@ -339,7 +339,7 @@ fn shows_its_nodes(rt: HostRuntime) {
 fn is_no_process(world: &mut Cluster, node: &str, process: &str) -> bool {
     match (parse_node(node), parse_pid(process)) {
         (Ok(node), Ok(process)) => {
-            let event = WorldEvent::At(node, Event::Call(Call::Notices(process)));
+            let event = WorldEvent::At(node, LocalEvent::Call(Call::Notices(process)));
             match world.play(&event) {
                 Ok(_) => false,
                 Err(refusal) => refusal == Refusal::Step(StepFault::NoSuchProcess),

@@ -2,7 +2,7 @@
 ghost use Rattle.std.specs.Prelude.{◌≡◌, ℕ, true, false, ◌&&◌, ◌||◌, OnOk, IfOk};
 ghost use Rattle.registry_model.specs.Table.{is_rising, without};
 ghost use Rattle.term.specs.NodeSets.{set_of, with_older};
-ghost use Rattle.exit_watch.specs.Held.{AreSuspected, KeepsSuspects};
+ghost use Rattle.exit_watch.specs.WatchState.{AreSuspected, KeepsSuspects};
 
 use crate::node::{NodeCore, Phase};
 use exchange::{Admission, Noted, Settled, Welcome, admit_of, welcome_of};
@@ -53,7 +53,7 @@ impl<N: Names<Memory = Global>> NodeCore<N> {
     ghost use Rattle.node_events.specs.Made.{Made, entered, HasRoom, Spends};
     ghost use Rattle.node_events.specs.declared.events.Entry.TheVariants.{Joined as HasJoined};
     ghost use Rattle.term.specs.NodeSets.{IsNodeSet};
-    ghost use Rattle.node_core.specs.Held.{IsWithin};
+    ghost use Rattle.node_core.specs.CoreState.{IsWithin};
     ghost use Rattle.exchange.specs.Bodies.{settled_in, fate_in};
     ghost use Rattle.node_core.specs.Joining.{join_by, kill_one, put_names, remove_names, IsAdmitting, IsWelcomeTo, TellsToAdmit, Welcomes};
     ghost use Rattle.node_core.specs.Seen.{node_of};

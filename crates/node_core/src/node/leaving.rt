@@ -21,7 +21,7 @@ impl<N: Names<Memory = Global>> NodeCore<N> {
     ghost use Rattle.node_events.specs.Seen.{unnumbered};
     ghost use Rattle.node_events.specs.Made.{entered, HasRoom, Spends};
     ghost use Rattle.node_events.specs.declared.events.Entry.TheVariants.{Told};
-    ghost use Rattle.lock_calls.specs.Held.{AreOrdered, seen as calls_seen};
+    ghost use Rattle.lock_calls.specs.LockCallsState.{AreOrdered, seen as calls_seen};
     ghost use Rattle.node_core.specs.Rare.{is_admission};
     ghost use Rattle.node_core.specs.Steps.{IsOther, KeepsQueue, KeepsCalls, Makes};
 

@@ -19,9 +19,9 @@ impl<N: Names<Memory = Global>> NodeCore<N> {
     ghost use Rattle.term.specs.NodeSets.{set_of};
     ghost use Rattle.lock_table.specs.Ids.{id_of};
     ghost use Rattle.lock_calls.specs.Calls.{as_call};
-    ghost use Rattle.lock_calls.specs.Held.{AreOrdered, seen as calls_seen};
+    ghost use Rattle.lock_calls.specs.LockCallsState.{AreOrdered, seen as calls_seen};
     ghost use Rattle.transaction.specs.Calls.{target_of};
-    ghost use Rattle.node_core.specs.Held.{IsWithin, IsOwnCall};
+    ghost use Rattle.node_core.specs.CoreState.{IsWithin, IsOwnCall};
     ghost use Rattle.node_core.specs.Locking.{retry_of, end_of, deleted_of};
     ghost use Rattle.node_events.specs.Letters.{letter_of, has_lists};
     ghost use Rattle.node_events.specs.Made.{HasRoom, Spends};

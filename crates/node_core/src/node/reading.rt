@@ -2,7 +2,7 @@
 ghost use Rattle.std.specs.Prelude.{◌≡◌, OnOk};
 ghost use Rattle.registry_model.specs.Table.{Table, changed};
 ghost use Rattle.name_table.specs.Changes.{change_of};
-ghost use Rattle.exit_watch.specs.Held.{AreSuspected, KeepsSuspects};
+ghost use Rattle.exit_watch.specs.WatchState.{AreSuspected, KeepsSuspects};
 ghost use Rattle.node_core.specs.Seen.{is_granted};
 
 use crate::node::NodeCore;

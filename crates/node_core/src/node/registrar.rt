@@ -22,7 +22,7 @@ impl<N: Names<Memory = Global>> NodeCore<N> {
     ghost use Rattle.name_table.specs.Changes.{change_of};
     ghost use Rattle.transaction.specs.declared.op.Op.TheVariants.{Name as NameOp, Strike};
     ghost use Rattle.transaction.specs.Ops.{name_call_of, op_of};
-    ghost use Rattle.node_core.specs.Held.{IsWithin};
+    ghost use Rattle.node_core.specs.CoreState.{IsWithin};
     ghost use Rattle.node_events.specs.Letters.{letter_of, has_lists};
     ghost use Rattle.node_events.specs.Seen.{reply_of, is_list, unnumbered};
     ghost use Rattle.node_events.specs.Made.{HasRoom, Spends};

@@ -15,9 +15,9 @@ impl<N: Names<Memory = Global>> NodeCore<N> {
     ghost use Rattle.protocol_model.specs.Letter.{Global as GlobalId, Letter as AnyLetter};
     ghost use Rattle.protocol_model.specs.Registrar.{registrar, ask_global, ask_rest, start_queue, start, retry_global};
     ghost use Rattle.protocol_model.specs.Deciding.{end_round, hear_answer};
-    ghost use Rattle.locker.specs.Held.{Held as HeldRound, seen};
+    ghost use Rattle.locker.specs.RoundState.{RoundState, seen};
     ghost use Rattle.node_core.specs.declared.node.Phase.TheVariants.{Asking};
-    ghost use Rattle.node_core.specs.Held.{IsWithin};
+    ghost use Rattle.node_core.specs.CoreState.{IsWithin};
     ghost use Rattle.transaction.specs.Work.{begins_with_join};
     ghost use Rattle.node_events.specs.Letters.{letter_of, has_lists};
     ghost use Rattle.node_events.specs.Made.{HasRoom, Spends};
@@ -121,7 +121,7 @@ impl<N: Names<Memory = Global>> NodeCore<N> {
         ensures spends { Spends (MOST_NODES + 1) 1 1 turn.old turn.new }
         ensures refused { OnErr result (is_admission self.old.registrar.current ≡ true) }
         ensures unchanged { OnErr result (self.new ≡ self.old) }
-        ensures turn { (round : HeldRound) → self.old.phase ≡ Asking round
+        ensures turn { (round : RoundState) → self.old.phase ≡ Asking round
             → OnOk result (Works (λ op n a. end_round n a unnumbered op (seen round)) self.old turn.old self.new turn.new) }
         ensures kept { KeepsCalls self.old self.new }
     {

@@ -1,5 +1,5 @@
 //! Lines of lock calls that wait at a server, and what it counts of grants.
-use lock_lines::{Bell, Grant, Grants, Line, LockLines, Request, Turn};
+use lock_lines::{Bell, Grant, Grants, LinePlace, LockLines, Request, WaitingCalls};
 use std::alloc::{AllocError, Global};
 use std::sync::{Arc, Wait};
 use term::{LockId, Node, NodeSet, Pid, Requester, Resource, parse_node};
@@ -20,7 +20,7 @@ fn request(node: &Node, serial: u32, requester: &Node, nodes: &NodeSet) -> Reque
 }
 
 /// A call for it enters a line: its number there.
-fn enter(alloc: Global, line: &mut Line, request: Request) -> Result<u64, AllocError> {
+fn enter(alloc: Global, line: &mut WaitingCalls, request: Request) -> Result<u64, AllocError> {
     let bell = Arc::new(alloc, Bell::new())?;
     line.enter(request, false, bell)
 }
@@ -42,7 +42,12 @@ struct Four {
 }
 
 /// Four calls enter a line. The fourth asks in the first one's name.
-fn enter_four(alloc: Global, line: &mut Line, a: &Node, b: &Node) -> Result<Four, AllocError> {
+fn enter_four(
+    alloc: Global,
+    line: &mut WaitingCalls,
+    a: &Node,
+    b: &Node,
+) -> Result<Four, AllocError> {
     let first = enter(alloc, line, request(a, 9, a, &NodeSet::one(a.copy())))?;
     let second = enter(alloc, line, request(a, 2, b, &both(a, b)))?;
     let third = enter(alloc, line, request(b, 1, a, &NodeSet::one(b.copy())))?;
@@ -56,7 +61,7 @@ fn enter_four(alloc: Global, line: &mut Line, a: &Node, b: &Node) -> Result<Four
 }
 
 /// Whether they go in the order in which they came, those that have a node in common, and one passes whose requester is the next.
-fn take_turns(line: &mut Line, next: &Request, calls: Four) -> bool {
+fn take_turns(line: &mut WaitingCalls, next: &Request, calls: Four) -> bool {
     let begins = line.may_go(calls.first)
         && !line.may_go(calls.second)
         && !line.may_go(calls.third)
@@ -73,7 +78,7 @@ fn take_turns(line: &mut Line, next: &Request, calls: Four) -> bool {
 
 /// Whether four calls do so in a new line.
 fn go_in_turn(alloc: Global, a: &Node, b: &Node) -> bool {
-    let mut line = Line::new(alloc);
+    let mut line = WaitingCalls::new(alloc);
     match enter_four(alloc, &mut line, a, b) {
         Ok(calls) => {
             let next = request(a, 9, a, &NodeSet::one(a.copy()));
@@ -140,7 +145,7 @@ fn counts_grants(alloc: Global, a: &Node, b: &Node) -> bool {
 }
 
 /// Whether the turn of the first of two calls has come alone, also behind a rest.
-fn waits_behind<R: Wait>(rt: &R, lines: &LockLines, first: &Turn, second: &Turn) -> bool {
+fn waits_behind<R: Wait>(rt: &R, lines: &LockLines, first: &LinePlace, second: &LinePlace) -> bool {
     second.rest(rt);
     lines.has_come(rt, first) && !lines.has_come(rt, second)
 }
@@ -161,8 +166,8 @@ fn follows<R: Wait>(
     rt: &R,
     lines: &LockLines,
     asked: &Request,
-    first: Turn,
-    second: &Turn,
+    first: LinePlace,
+    second: &LinePlace,
 ) -> bool {
     let waits = waits_behind(rt, lines, &first, second);
     let passes = passes(rt, lines, asked);
@@ -172,7 +177,7 @@ fn follows<R: Wait>(
 
 /// Whether the only call in line, whose turn has come, is told once that its lock may be free, for each cause: another has given a lock back at a
 /// node of its own, or has died, or a node has left, or anything may be free. It isn't told where the other was refused.
-fn is_told<R: Wait>(rt: &R, lines: &LockLines, turn: &Turn, other: &Request) -> bool {
+fn is_told<R: Wait>(rt: &R, lines: &LockLines, turn: &LinePlace, other: &Request) -> bool {
     let untold = !turn.was_freed() && lines.has_come(rt, turn);
     let asked = lines.ask(rt, other).is_ok();
     lines.take_back(rt, other);

@@ -1,6 +1,6 @@
 //! Tables of names, row by row; and the two of them side by side.
 use crate::tables::reading::{are_pairs, entry_of, pair_of, pairs_of};
-use name_table::{Change, Entry, IndexTable, ListTable, Names, Pair};
+use name_table::{Change, IndexTable, ListTable, Names, Pair, Registration};
 use std::alloc::Global;
 use term::{Name, parse_name, parse_node, parse_pid};
 
@@ -40,7 +40,7 @@ fn drop_node<N: Names>(table: &mut N, node: &str) -> bool {
 }
 
 /// Whether the owner of a name is that of an entry, or nobody has it where there is none.
-fn has_owner<N: Names>(table: &N, name: &Name, entry: Option<Entry>) -> bool {
+fn has_owner<N: Names>(table: &N, name: &Name, entry: Option<Registration>) -> bool {
     match entry {
         Some(entry) => table.owner(name) == Some(entry.owner),
         None => table.owner(name).is_none(),

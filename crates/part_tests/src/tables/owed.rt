@@ -1,5 +1,5 @@
 //! Whose strikes a watch owes, row by row.
-ghost use Rattle.exit_watch.specs.Held.{AreSuspected};
+ghost use Rattle.exit_watch.specs.WatchState.{AreSuspected};
 
 use exit_watch::Watch;
 use name_table::{Change, ListTable, Names, Pair};

@@ -1,15 +1,15 @@
 //! Pairs, entries, names, processes and notices, as the rows of the tests spell them.
 use exchange::{Noted, Notice};
-use name_table::{Entry, Pair};
+use name_table::{Pair, Registration};
 use std::alloc::{AllocError, Global};
 use term::{Name, Pid, parse_name, parse_pid, parse_rule};
 
 /// What stands under a name, of a text such as `a.1:notify`; where no rule is named it is `exit`.
-pub(crate) fn entry_of(text: &str) -> Option<Entry> {
+pub(crate) fn entry_of(text: &str) -> Option<Registration> {
     let (owner, rule) = text.split_once(':').unwrap_or((text, "exit"));
     let rule = parse_rule(rule).ok()?;
     match parse_pid(owner) {
-        Ok(owner) => Some(Entry { owner, rule }),
+        Ok(owner) => Some(Registration { owner, rule }),
         Err(_) => None,
     }
 }

@@ -1,7 +1,7 @@
 //! The thread that takes connections.
 ghost use Rattle.std.specs.Prelude.{◌≡◌, true, None};
 
-use crate::entry::Entry;
+use crate::listener::Listener;
 use crate::staying::hall::Guest;
 use crate::staying::notes::Note;
 use crate::staying::office::Office;
@@ -30,15 +30,15 @@ const SILENCE: u64 = 60;
 #[derive(Drop)]
 pub(crate) struct Door<R: Wait + Clock + Drop + Copy> {
     pub(crate) office: Office<R>,
-    pub(crate) entry: Entry,
+    pub(crate) listener: Listener,
     /// Where the workers take connections from.
     pub(crate) workers: Sender<Guest>,
 }
 
 /// Waits for a connection, for a while.
-fn wait_at<R: Clock>(rt: &R, entry: &Entry) {
+fn wait_at<R: Clock>(rt: &R, listener: &Listener) {
     let mut asked = [pollfd {
-        fd: entry.fd(),
+        fd: listener.fd(),
         events: POLLIN,
         revents: 0,
     }];
@@ -87,18 +87,18 @@ impl<R: Wait + Clock + Drop + Copy> Duty for Door<R> {
         &self.office.nodes
     }
 
-    /// Takes connections until the server ends. The entry is let go then, so whoever comes too late is told by the system.
+    /// Takes connections until the server ends. The listener is let go then, so whoever comes too late is told by the system.
     fn run(self) -> NodeSet {
         // Where this fails, a client that gives up too early may hold the door up until the next one comes.
-        let _ = self.entry.take_at_once();
+        let _ = self.listener.take_at_once();
         let mut number = 0u64;
         let mut told = None;
         for _ in self.office.rt.forever() {
             if self.is_closing() {
                 break;
             }
-            wait_at(&self.office.rt, &self.entry);
-            match self.entry.accept() {
+            wait_at(&self.office.rt, &self.listener);
+            match self.listener.accept() {
                 Ok(stream) => {
                     number = number.saturating_add(1);
                     self.let_in(number, stream);

@@ -3,7 +3,7 @@ ghost use denote.Param.Send.{IsSend};
 ghost use Rattle.std.specs.Prelude.{◌≡◌, ◌+◌, ℕ, List, length, IfOk, OnOk};
 ghost use Rattle.server.specs.Staying.{Serve, Starts, workers_for};
 
-use crate::entry::Entry;
+use crate::listener::Listener;
 use crate::staying::desk::{Message, dismiss};
 use crate::staying::door::Door;
 use crate::staying::hall::{Guest, Hall};
@@ -119,7 +119,7 @@ where
 /// Starts so many workers, and the door. The workers that were started end where the door isn't.
 fn start_all<R>(
     office: Office<R>,
-    entry: Entry,
+    listener: Listener,
     guests: Sender<Guest>,
     workers: u32,
     threads: &mut Vec<DutyThread>,
@@ -132,7 +132,7 @@ where
     let rt = office.rt;
     let door = Door {
         office,
-        entry,
+        listener,
         workers: guests,
     };
     post(&rt, door, threads)
@@ -146,12 +146,12 @@ pub(crate) fn workers_for(consoles: u32) -> u32
 }
 
 impl Staff {
-    /// Starts the workers for so many consoles, each of which serves these nodes by these seats, and the door of this entry. So much memory
+    /// Starts the workers for so many consoles, each of which serves these nodes by these seats, and the door of this listener. So much memory
     /// the process has then. Where a thread can't be had, those that were started have ended.
     pub(crate) fn start<R>(
         rt: &R,
         alloc: Global,
-        entry: Entry,
+        listener: Listener,
         nodes: NodeSet,
         seats: Seats,
         options: StayOptions,
@@ -183,7 +183,7 @@ impl Staff {
             desk,
         };
         let mut threads = Vec::new(alloc);
-        match start_all(office, entry, to_workers, workers, &mut threads) {
+        match start_all(office, listener, to_workers, workers, &mut threads) {
             Ok(()) => Ok(Staff {
                 messages,
                 memory,

@@ -17,16 +17,16 @@ read_matches-requires c =
     (c.in_ok-matches.ensures.matches (ap is_simple e ∙ is_plain)).1 ∙ ap (λ (a : App). subcommand_of a words) e in
     subst IsLooked (sym is) (looked words none)
 
-pub returns-in_err-matches-clause-task : goal.returns-in_err-matches-clause-task
-returns-in_err-matches-clause-task c =
+pub returns-in_err-matches-clause-mode : goal.returns-in_err-matches-clause-mode
+returns-in_err-matches-clause-mode c =
     let words = map string_bytes c.args.words.now in
     let e = c.in_ok-command.ensures in
     let error = c.in_err-matches.field-0.0 in
     handed_on (Asks words) (Refuses words) c.from_residual-in_err-matches.result (Words error) c.from_residual-in_err-matches.ensures.1
     (subst (λ (a : App). HasKind (fault_of a words) error) e (c.in_err-matches.ensures.kinds (ap is_simple_and_free e ∙ is_free)))
 
-pub returns-clause-task : goal.returns-clause-task
-returns-clause-task c =
+pub returns-clause-mode : goal.returns-clause-mode
+returns-clause-mode c =
     let words = map string_bytes c.args.words.now in
     let e = c.in_ok-command.ensures in
     let none : refusals words ≡ [] = subst (λ (a : App). fault_of a words ≡ []) e (c.in_ok-matches.ensures.kinds (ap is_simple_and_free e ∙ is_free)) in

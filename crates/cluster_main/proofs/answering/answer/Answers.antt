@@ -12,8 +12,8 @@ use Rattle.cluster_main.proofs.answering.answer.Goals as goal
 pub serve-requires-after_bounds : goal.serve-requires-after_bounds
 serve-requires-after_bounds g c κs within =
     let words : List Text = map string_bytes c.in-Some.words.now in
-    let task = subst (Asks words) c.in-Ok-Serve.field-0-is c.in-Ok-Serve.ensures.task in
-    ready (value_in (subcommand_of program words)) c.in-Ok-Serve.options task.asked.1
+    let mode = subst (Asks words) c.in-Ok-Serve.field-0-is c.in-Ok-Serve.ensures.mode in
+    ready (value_in (subcommand_of program words)) c.in-Ok-Serve.options mode.asked.1
 
 pub returns-in-Ok-Serve : goal.returns-in-Ok-Serve
 returns-in-Ok-Serve g c =
@@ -28,8 +28,8 @@ returns-in-Ok-Serve g c =
       new = g.E.Write.contents c.serve.new.errors;
     } in
     let words : List Text = map string_bytes c.in-Some.words.now in
-    let task = subst (Asks words) c.in-Ok-Serve.field-0-is c.in-Ok-Serve.ensures.task in
-    let d = served words c.in-Ok-Serve.options c.serve.result s told c.status.result task
+    let mode = subst (Asks words) c.in-Ok-Serve.field-0-is c.in-Ok-Serve.ensures.mode in
+    let d = served words c.in-Ok-Serve.options c.serve.result s told c.status.result mode
     (Keeps-refl (reader_remaining g.R.Read.remaining c.args.reader.now)) c.serve.ensures.serves c.serve.ensures.why c.status.ensures in
     rw c.in-Some.is (inl d)
 
@@ -46,12 +46,12 @@ returns-in-Ok-Script g c =
       new = g.E.Write.contents c.args.errors.now;
     } in
     let words : List Text = map string_bytes c.in-Some.words.now in
-    let task = subst (Asks words) c.in-Ok-Script.field-0-is c.in-Ok-Script.ensures.task in
-    let d = played words s told c.play.result task c.play.ensures (Keeps-refl (g.E.Write.contents c.args.errors.now)) in
+    let mode = subst (Asks words) c.in-Ok-Script.field-0-is c.in-Ok-Script.ensures.mode in
+    let d = played words s told c.play.result mode c.play.ensures (Keeps-refl (g.E.Write.contents c.args.errors.now)) in
     rw c.in-Some.is (inl d)
 
 pub run-requires : goal.run-requires
-run-requires g c = (subst (Asks (map string_bytes c.in-Some.words.now)) c.in-Ok-Node.field-0-is c.in-Ok-Node.ensures.task).asked.1.placed.known
+run-requires g c = (subst (Asks (map string_bytes c.in-Some.words.now)) c.in-Ok-Node.field-0-is c.in-Ok-Node.ensures.mode).asked.1.placed.known
 
 pub returns-in-Ok-Node : goal.returns-in-Ok-Node
 returns-in-Ok-Node g c =
@@ -66,8 +66,8 @@ returns-in-Ok-Node g c =
       new = g.E.Write.contents c.args.errors.now;
     } in
     let words : List Text = map string_bytes c.in-Some.words.now in
-    let task = subst (Asks words) c.in-Ok-Node.field-0-is c.in-Ok-Node.ensures.task in
-    let d = ran words c.in-Ok-Node.options s told c.run.result task c.run.ensures
+    let mode = subst (Asks words) c.in-Ok-Node.field-0-is c.in-Ok-Node.ensures.mode in
+    let d = ran words c.in-Ok-Node.options s told c.run.result mode c.run.ensures
     (Keeps-refl (g.E.Write.contents c.args.errors.now)) in
     rw c.in-Some.is (inl d)
 
@@ -83,6 +83,6 @@ returns-in-Err g c =
       old = g.E.Write.contents c.args.errors.now;
       new = g.E.Write.contents c.refuse.new.errors;
     } in
-    let d = refused (map string_bytes c.in-Some.words.now) c.in-Err.fault s told c.refuse.result c.in-Err.ensures.task
+    let d = refused (map string_bytes c.in-Some.words.now) c.in-Err.fault s told c.refuse.result c.in-Err.ensures.mode
     (Keeps-refl (reader_remaining g.R.Read.remaining c.args.reader.now)) c.refuse.ensures in
     rw c.in-Some.is d

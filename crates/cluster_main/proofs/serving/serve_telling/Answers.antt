@@ -1,6 +1,6 @@
 use Rattle.std.proofs.Common.{ℕ, List, Option}
 use Rattle.std.proofs.KnownBytes.{Keeps-refl}
-use Rattle.arguments.specs.declared.task.ServeOptions.{ServeOptions}
+use Rattle.arguments.specs.declared.mode.ServeOptions.{ServeOptions}
 use Rattle.cluster_main.specs.Serving.{Listened, TellsWhy}
 use Rattle.cluster_main.specs.declared.serving.Served.{Served}
 use Rattle.cluster_main.specs.declared.serving.Served.TheVariants.{NoCookie, NotListening, NotAnnounced, Ran, Stayed}

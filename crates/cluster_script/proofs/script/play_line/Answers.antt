@@ -5,9 +5,9 @@ use Rattle.cluster_script.proofs.script.play_line.Goals as goal
 
 pub returns : goal.returns
 returns g c = λ bytes k.
-    let p = c.play_task.ensures in (
+    let p = c.play_command.ensures in (
       p.0,
-      ComesTo-read bytes (asked_by c.read_task-task.result) p.0
-          (read_or_memory bytes c.read_task-task.result (λ n. c.read_task-task.ensures.asks n bytes k)) p.1,
+      ComesTo-read bytes (asked_by c.read_command-command.result) p.0
+          (read_or_memory bytes c.read_command-command.result (λ n. c.read_command-command.ensures.asks n bytes k)) p.1,
       p.2,
     )

@@ -10,14 +10,14 @@ use Rattle.command_lines.specs.Printing.{answers_text}
 use Rattle.text_lines.specs.Writing.{AppendsPart}
 use Rattle.cluster_script.proofs.Writing.{PlaysAsked-err}
 use Rattle.cluster_script.proofs.Settling.{Settles-start, Settles-next, settle-stopped, settle-ended, settle-broken, none_waits, none_left, settled-waits, is_none-by, answers-written, answers-part}
-use Rattle.cluster_world.specs.Held.{Held}
+use Rattle.cluster_world.specs.WorldState.{WorldState}
 use Rattle.text_lines.specs.declared.faults.WriteFault.{WriteFault}
 use Rattle.cluster_script.specs.Script.{Plays}
 use Rattle.cluster_script.specs.Played.{PlaysAsked, PlaysOrStops, settle_end}
 use Rattle.cluster_script.proofs.script.settle.Goals as goal
 
 -- it went on to its end
-settled : (old new : Held) (a b : Option (List ℕ)) (r : Result Bool WriteFault) → PlaysOrStops old new (Plays Settle) a b r
+settled : (old new : WorldState) (a b : Option (List ℕ)) (r : Result Bool WriteFault) → PlaysOrStops old new (Plays Settle) a b r
     → PlaysAsked (Ok (Scripted Settle)) old new a b r
 settled old new a b r p = (Plays Settle, refl, p)
 
@@ -29,7 +29,7 @@ returns-in-Ok-None g c =
     let none = MatchOption-at_none _ _ c.in-Ok-None.field-0-is c.in-Ok-None.ensures.next in
     let a = g.W.Write.contents c.args.writer.now in
     let b = g.W.Write.contents c.loop.writer in
-    subst (λ (h : Held). PlaysAsked (Ok (Scripted Settle)) c.args.world.now h a (g.W.Write.contents c.end_settle.new.writer)
+    subst (λ (h : WorldState). PlaysAsked (Ok (Scripted Settle)) c.args.world.now h a (g.W.Write.contents c.end_settle.new.writer)
     c.end_settle.result) (sym none.1)
     (settled c.args.world.now c.loop.world a _ _
     (settle-ended c.loop.counter c.args.world.now c.loop.world a b c.loop.invariant

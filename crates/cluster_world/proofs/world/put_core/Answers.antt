@@ -1,6 +1,6 @@
 use Rattle.std.proofs.Common.{ℕ, ◌≡◌, ◌∙◌, ◌<◌, ◌++◌, List, [], ◌∷◌, length, get_or, map, ap}
 use Rattle.std.proofs.lemmas.List.{map-append, get_or_default}
-use Rattle.node_core.specs.Held.{Held as Core}
+use Rattle.node_core.specs.CoreState.{CoreState}
 use Rattle.cluster_world.proofs.world.put_core.Goals as goal
 
 -- of what has been, and a pair behind it, the first parts
@@ -11,7 +11,7 @@ firsts {A} {B} items was x y u e same = ap (λ (ps : List (A × B)). map (λ p. 
     ∙ ap (λ (z : A). map (λ (p : A × B). p.0) was ++ z ∷ []) same
 
 -- the core that stood there
-stood : (cs : List Core) (p : ℕ) (x c d : Core) → p < length cs → x ≡ get_or cs p c → x ≡ get_or cs p d
+stood : (cs : List CoreState) (p : ℕ) (x c d : CoreState) → p < length cs → x ≡ get_or cs p c → x ≡ get_or cs p d
 stood cs p x c d l is = is ∙ get_or_default cs p c d l
 
 pub returns-clause-past : goal.returns-clause-past

@@ -1,5 +1,5 @@
 use Rattle.std.specs.Prelude.{not}
-use Rattle.exit_watch.specs.Held.{process_of}
+use Rattle.exit_watch.specs.WatchState.{process_of}
 use Rattle.exit_watch.proofs.Owners.{owns-changed, owns-filter}
 use Rattle.exit_watch.proofs.laws.only_puts_are_noted.Goals as goal
 

@@ -1,6 +1,6 @@
 use Rattle.std.proofs.Common.{arith}
 use Rattle.protocol_model.specs.Round.{asked_too}
-use Rattle.locker.specs.Held.{as_mark}
+use Rattle.locker.specs.RoundState.{as_mark}
 use Rattle.locker.specs.declared.mark.Mark.TheVariants.{Later}
 use Rattle.locker.proofs.Lists.{replaced_more}
 use Rattle.locker.proofs.round.ask_the_rest.Goals as goal

@@ -1,6 +1,6 @@
 use Rattle.std.proofs.Common.{◌≡◌, map, take, drop}
 use Rattle.protocol_model.specs.Round.{asked_too}
-use Rattle.locker.specs.Held.{as_mark}
+use Rattle.locker.specs.RoundState.{as_mark}
 use Rattle.locker.proofs.round.ask_the_rest.Given as goal
 
 abbrev pub invariant-loop-mark : goal.invariant-loop-mark

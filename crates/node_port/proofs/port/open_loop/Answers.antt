@@ -1,6 +1,6 @@
 use Rattle.std.proofs.Common.{◌≡◌, ℕ, List, sym, subst, ap, ◌∙◌}
 use Rattle.term.specs.NodeSets.{set_of, with_older}
-use Rattle.node_loop.specs.NodeCoreHeld.{HaveLeft}
+use Rattle.node_loop.specs.NodeCoreState.{HaveLeft}
 use Rattle.node_port.proofs.Beginnings.{knows_itself, have_left, stays}
 use Rattle.node_port.proofs.port.open_loop.Goals as goal
 

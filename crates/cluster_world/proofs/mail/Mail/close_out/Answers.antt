@@ -4,7 +4,7 @@ use Rattle.protocol_model.specs.Links.{closed_out}
 use Rattle.term.specs.Nodes.{name_of}
 use Rattle.term.specs.NodeSets.{set_of, with_older}
 use Rattle.link.specs.Faults.{IsStranger}
-use Rattle.link.specs.Held.{seen}
+use Rattle.link.specs.MeshState.{seen}
 use Rattle.cluster_world.specs.Mail.{Mailed, links_of}
 use Rattle.cluster_world.proofs.Mails.{links_closed, sound_closed}
 use Rattle.cluster_world.proofs.mail.Mail.close_out.Goals as goal

@@ -1,7 +1,7 @@
 use Rattle.std.proofs.Common.{ℕ, true, ◌≡◌, ◌∙◌, Some, ap, sym, subst}
 use Rattle.std.specs.List.{All}
 use Rattle.term.specs.NodeSets.{with_older}
-use Rattle.link.specs.Held.{place}
+use Rattle.link.specs.MeshState.{place}
 use Rattle.node_core.specs.declared.Letter.{Letter}
 use Rattle.cluster_world.specs.Links.{Unsent}
 use Rattle.cluster_world.specs.Mail.{Mailed, links_of}

@@ -3,7 +3,7 @@ use Rattle.std.specs.Prelude.{slice_get, not}
 use Rattle.std.specs.Option.{option_copied}
 use Rattle.std.proofs.lemmas.Bool.{eqb-true, eqb-false, false≢true}
 use Rattle.term.specs.Nodes.{name_of}
-use Rattle.link.specs.Held.{from_of, to_of, seen}
+use Rattle.link.specs.MeshState.{from_of, to_of, seen}
 use Rattle.cluster_world.specs.Links.{SentLetter, Unsent}
 use Rattle.cluster_world.specs.Mail.{Mailed, IsSound}
 use Rattle.cluster_world.proofs.Listed.{known_place}

@@ -3,7 +3,7 @@ use Rattle.std.specs.Prelude.{OnOk, IfErr}
 use Rattle.term.specs.Nodes.{name_of}
 use Rattle.term.specs.NodeSets.{set_of, with_older}
 use Rattle.link.specs.Faults.{IsStranger}
-use Rattle.link.specs.Held.{seen}
+use Rattle.link.specs.MeshState.{seen}
 use Rattle.link.specs.Reopening.{reopened}
 use Rattle.cluster_world.specs.Mail.{Mailed, links_of}
 use Rattle.cluster_world.proofs.Mails.{links_reopened, sound_reopened}

@@ -2,22 +2,22 @@ use Rattle.std.proofs.Common.{ℕ, Bool, true, false, ◌≡◌, ◌∙◌, List
 use Rattle.std.specs.Prelude.{◌&&◌}
 use Rattle.std.proofs.lemmas.Result.{err_from_is_err_and}
 use Rattle.term.specs.NodeSets.{with_older}
-use Rattle.link.specs.Held.{place}
+use Rattle.link.specs.MeshState.{place}
 use Rattle.node_core.specs.declared.Event.{Event as NodeEvent}
-use Rattle.node_core.specs.Held.{HaveLeft}
+use Rattle.node_core.specs.CoreState.{HaveLeft}
 use Rattle.node_core.specs.Steps.{refusal_of}
-use Rattle.world_events.specs.declared.events.Event.{Event}
+use Rattle.world_events.specs.declared.events.LocalEvent.{LocalEvent}
 use Rattle.world_events.specs.declared.events.WorldEvent.TheVariants.{At}
 use Rattle.world_events.specs.declared.refusal.Refusal.TheVariants.{NoSuchNode}
 use Rattle.world_events.specs.Events.{knows_contact}
-use Rattle.cluster_world.specs.Held.{Held, nodes_of}
+use Rattle.cluster_world.specs.WorldState.{WorldState, nodes_of}
 use Rattle.cluster_world.specs.Playing.{RefusedWith}
 use Rattle.cluster_world.specs.Whole.{IsWhole}
 use Rattle.cluster_world.proofs.Plays.{refuses_strange, refuses_step, free_by_node}
 use Rattle.cluster_world.proofs.world.World.admit_own.Goals as goal
 
 -- the contact of the event is unknown
-strange : (old h : Held) → h ≡ old → HaveLeft (nodes_of h) h.links.departed → (a : ℕ) (e : Event)
+strange : (old h : WorldState) → h ≡ old → HaveLeft (nodes_of h) h.links.departed → (a : ℕ) (e : LocalEvent)
     → knows_contact (nodes_of h) e ≡ false → RefusedWith NoSuchNode (At a e) old
 strange old h same left a e none = subst (RefusedWith NoSuchNode (At a e)) same
     (refuses_strange h left a e (and_false (with_older (nodes_of h) a) (knows_contact (nodes_of h) e) none))
@@ -36,7 +36,7 @@ pub returns-in_err-place-clause-refused : goal.returns-in_err-place-clause-refus
 returns-in_err-place-clause-refused g c =
     let why : RefusedWith c.in_err-place.field-0.0 (At c.args.node.now c.args.event.now) c.args.self.now =
     c.in_err-place.ensures.refused c.args.event.now
-    (ap (λ (h : Held). knows_contact (nodes_of h) c.args.event.now) (sym c.self.view_is)
+    (ap (λ (h : WorldState). knows_contact (nodes_of h) c.args.event.now) (sym c.self.view_is)
     ∙ ap (λ (ns : List ℕ). knows_contact ns c.args.event.now) (sym c.nodes.ensures.nodes)
     ∙ sym c.knows_contact.ensures ∙ c.if-not-knows_contact.false) in
     let p = err_from_is_err_and c.from_residual.result c.from_residual.ensures.1 in
@@ -46,9 +46,9 @@ pub returns-in-Some-clause-refused : goal.returns-in-Some-clause-refused
 returns-in-Some-clause-refused g c =
     refuses_step c.args.self.now (subst IsWhole c.self.view_is c.self.invariant) c.in_ok-place.ensures.left
     c.args.node.now c.in_ok-place.place c.args.event.now c.index.result.now c.in_ok-place.ensures.ok.0
-    (subst (λ (h : Held). c.index.result.now ≡ get_or h.cores c.in_ok-place.place c.index.result.now) c.self.view_is
+    (subst (λ (h : WorldState). c.index.result.now ≡ get_or h.cores c.in_ok-place.place c.index.result.now) c.self.view_is
     c.index.ensures)
-    (ap (λ (h : Held). knows_contact (nodes_of h) c.args.event.now) (sym c.self.view_is)
+    (ap (λ (h : WorldState). knows_contact (nodes_of h) c.args.event.now) (sym c.self.view_is)
     ∙ ap (λ (ns : List ℕ). knows_contact ns c.args.event.now) (sym c.nodes.ensures.nodes)
     ∙ sym c.knows_contact.ensures ∙ c.if-not-knows_contact.false)
     c.in_ok-place.ensures.ok.1 c.in-Some.fault
@@ -61,9 +61,9 @@ returns-in-None-clause-ok g c = record {
   own = refl;
   accepted = free_by_node c.args.self.now (subst IsWhole c.self.view_is c.self.invariant) c.in_ok-place.ensures.left
       c.args.node.now c.in_ok-place.place c.args.event.now c.index.result.now c.in_ok-place.ensures.ok.0
-      (subst (λ (h : Held). c.index.result.now ≡ get_or h.cores c.in_ok-place.place c.index.result.now) c.self.view_is
+      (subst (λ (h : WorldState). c.index.result.now ≡ get_or h.cores c.in_ok-place.place c.index.result.now) c.self.view_is
       c.index.ensures)
-      (ap (λ (h : Held). knows_contact (nodes_of h) c.args.event.now) (sym c.self.view_is)
+      (ap (λ (h : WorldState). knows_contact (nodes_of h) c.args.event.now) (sym c.self.view_is)
       ∙ ap (λ (ns : List ℕ). knows_contact ns c.args.event.now) (sym c.nodes.ensures.nodes)
       ∙ sym c.knows_contact.ensures ∙ c.if-not-knows_contact.false)
       c.in_ok-place.ensures.ok.1

@@ -1,6 +1,6 @@
 use Rattle.std.proofs.Common.{ℕ, ◌≡◌, ◌<◌, ◌+◌, ◌∙◌, Some, get_or, ap, sym, subst}
 use Rattle.term.specs.Nodes.{name_of, creation_of, last_creation}
-use Rattle.cluster_world.specs.Held.{Held}
+use Rattle.cluster_world.specs.WorldState.{WorldState}
 use Rattle.cluster_world.specs.Mail.{links_of}
 use Rattle.cluster_world.specs.Restarting.{IsFirstUntold}
 use Rattle.cluster_world.specs.Whole.{IsWhole}
@@ -13,9 +13,9 @@ returns-then-not-has_left-clause-refused g c = refuses_running c.args.self.now (
     c.in-Some.ensures.left
     c.in-Some.ensures.place.0 c.args.name.now c.in-Some.place c.node-node.result.now c.in-Some.ensures.place.1
     c.in-Some.ensures.place.2
-    c.index.result.now (subst (λ (h : Held). c.index.result.now ≡ get_or h.cores c.in-Some.place c.index.result.now) c.self.view_is
+    c.index.result.now (subst (λ (h : WorldState). c.index.result.now ≡ get_or h.cores c.in-Some.place c.index.result.now) c.self.view_is
     c.index.ensures) c.node-node.ensures.name c.has_left.result
-    (subst (λ (h : Held). c.has_left.result ≡ (links_of h.links).closed c.node-node.result.now) c.self.view_is c.has_left.ensures)
+    (subst (λ (h : WorldState). c.has_left.result ≡ (links_of h.links).closed c.node-node.result.now) c.self.view_is c.has_left.ensures)
     c.if-not-has_left.true
 
 pub returns-in-Some-first_untold-clause-refused : goal.returns-in-Some-first_untold-clause-refused
@@ -23,17 +23,17 @@ returns-in-Some-first_untold-clause-refused g c = refuses_untold c.args.self.now
     c.in-Some.ensures.left
     c.in-Some.ensures.place.0 c.args.name.now c.in-Some.place c.node-node.result.now c.in-Some.ensures.place.1
     c.in-Some.ensures.place.2
-    c.index.result.now (subst (λ (h : Held). c.index.result.now ≡ get_or h.cores c.in-Some.place c.index.result.now) c.self.view_is
+    c.index.result.now (subst (λ (h : WorldState). c.index.result.now ≡ get_or h.cores c.in-Some.place c.index.result.now) c.self.view_is
     c.index.ensures) c.node-node.ensures.name c.has_left.result
     c.copy.result
-    (subst (λ (h : Held). c.has_left.result ≡ (links_of h.links).closed c.node-node.result.now) c.self.view_is c.has_left.ensures)
+    (subst (λ (h : WorldState). c.has_left.result ≡ (links_of h.links).closed c.node-node.result.now) c.self.view_is c.has_left.ensures)
     c.if-not-has_left.false
     (subst (λ (m : ℕ). IsFirstUntold c.node-node.result.now c.args.self.now (Some m)) (sym c.copy.ensures)
     c.in-Some-first_untold.ensures)
 
 pub returns-in-Some-next-clause-ok : goal.returns-in-Some-next-clause-ok
 returns-in-Some-next-clause-ok g c =
-    let core_is = subst (λ (h : Held). c.index.result.now ≡ get_or h.cores c.in-Some.place c.index.result.now) c.self.view_is
+    let core_is = subst (λ (h : WorldState). c.index.result.now ≡ get_or h.cores c.in-Some.place c.index.result.now) c.self.view_is
     c.index.ensures in
     let whole = subst IsWhole c.self.view_is c.self.invariant in
     may_start (record { place = c.in-Some.place; older = c.copy-in-Some-next.result; next = c.in-Some-next.next }) c.args.self.now
@@ -46,7 +46,7 @@ returns-in-Some-next-clause-ok g c =
     (admits c.args.self.now whole c.in-Some.ensures.left
     c.in-Some.ensures.place.0 c.args.name.now c.in-Some.place c.node-node.result.now c.in-Some.ensures.place.1
     c.in-Some.ensures.place.2 c.index.result.now core_is c.node-node.ensures.name c.has_left.result
-    (subst (λ (h : Held). c.has_left.result ≡ (links_of h.links).closed c.node-node.result.now) c.self.view_is c.has_left.ensures)
+    (subst (λ (h : WorldState). c.has_left.result ≡ (links_of h.links).closed c.node-node.result.now) c.self.view_is c.has_left.ensures)
     c.if-not-has_left.false c.in_default-first_untold.ensures c.in-Some-next.ensures.0)
 
 pub returns-in-Some-next-clause-event : goal.returns-in-Some-next-clause-event
@@ -55,7 +55,7 @@ returns-in-Some-next-clause-event g c =
     ∙ is_node c.args.self.now (subst IsWhole c.self.view_is c.self.invariant) c.in-Some.ensures.left
     c.in-Some.ensures.place.0 c.args.name.now c.in-Some.place c.node-node.result.now c.in-Some.ensures.place.1
     c.in-Some.ensures.place.2 c.index.result.now
-    (subst (λ (h : Held). c.index.result.now ≡ get_or h.cores c.in-Some.place c.index.result.now) c.self.view_is c.index.ensures)
+    (subst (λ (h : WorldState). c.index.result.now ≡ get_or h.cores c.in-Some.place c.index.result.now) c.self.view_is c.index.ensures)
     c.node-node.ensures.name)
     ∙ c.in-Some.ensures.place.2
 
@@ -64,7 +64,7 @@ returns-in-None-clause-refused g c = refuses_spent c.args.self.now (subst IsWhol
     c.in-Some.ensures.left
     c.in-Some.ensures.place.0 c.args.name.now c.in-Some.place c.node-node.result.now c.in-Some.ensures.place.1
     c.in-Some.ensures.place.2
-    c.index.result.now (subst (λ (h : Held). c.index.result.now ≡ get_or h.cores c.in-Some.place c.index.result.now) c.self.view_is
+    c.index.result.now (subst (λ (h : WorldState). c.index.result.now ≡ get_or h.cores c.in-Some.place c.index.result.now) c.self.view_is
     c.index.ensures) c.node-node.ensures.name c.has_left.result
-    (subst (λ (h : Held). c.has_left.result ≡ (links_of h.links).closed c.node-node.result.now) c.self.view_is c.has_left.ensures)
+    (subst (λ (h : WorldState). c.has_left.result ≡ (links_of h.links).closed c.node-node.result.now) c.self.view_is c.has_left.ensures)
     c.if-not-has_left.false c.in_default-first_untold.ensures c.in-None.ensures

@@ -1,12 +1,12 @@
 use Rattle.std.proofs.Common.{◌≤◌, ◌∙◌, ◌++◌, List, get_or, length, ap, sym, subst, arith}
 use Rattle.std.proofs.lemmas.Result.{err_from_is_err_and}
 use Rattle.term.specs.Nodes.{name_of}
-use Rattle.link.specs.Held.{place}
+use Rattle.link.specs.MeshState.{place}
 use Rattle.node_core.specs.declared.Answer.{Answer}
-use Rattle.node_core.specs.Held.{Held as Core}
+use Rattle.node_core.specs.CoreState.{CoreState}
 use Rattle.node_core.specs.Rare.{most_answers}
 use Rattle.world_events.specs.declared.events.WorldEvent.TheVariants.{Deliver}
-use Rattle.cluster_world.specs.Held.{Held, nodes_of}
+use Rattle.cluster_world.specs.WorldState.{WorldState, nodes_of}
 use Rattle.cluster_world.specs.Playing.{Played}
 use Rattle.cluster_world.specs.Whole.{IsWhole}
 use Rattle.cluster_world.proofs.Running.{played_behind, appended, fits_behind}
@@ -16,7 +16,7 @@ use Rattle.cluster_world.proofs.world.World.deliver_into.Goals as goal
 pub index-requires : goal.index-requires
 index-requires g c =
     let l = has_core _ c.self.invariant c.in-Some.delivery.receiver c.in-Some.delivery.link.receiver
-    (ap (λ (k : Held). place c.in-Some.delivery.receiver (nodes_of k)) c.self.view_is ∙ c.in-Some.ensures.ready.link.receiver) in
+    (ap (λ (k : WorldState). place c.in-Some.delivery.receiver (nodes_of k)) c.self.view_is ∙ c.in-Some.ensures.ready.link.receiver) in
     omega (arith, l, c.self.inside.cores.ok.0)
 
 pub returns-in_err-reserve-clause-waits : goal.returns-in_err-reserve-clause-waits
@@ -40,8 +40,8 @@ returns-clause-delivered g c = record {
 }
   where
     few : length c.in_ok-given.given.items ≤ most_answers c.index.result.now
-    few = subst (λ (k : Core). length c.in_ok-given.given.items ≤ most_answers k)
-        (ap (λ (k : Held). get_or k.cores c.in-Some.delivery.link.receiver c.index.result.now) (sym c.self.view_is)
+    few = subst (λ (k : CoreState). length c.in_ok-given.given.items ≤ most_answers k)
+        (ap (λ (k : WorldState). get_or k.cores c.in-Some.delivery.link.receiver c.index.result.now) (sym c.self.view_is)
         ∙ sym c.index.ensures)
         (c.in_ok-given.ensures.few c.index.result.now)
 

@@ -1,7 +1,7 @@
 use Rattle.std.proofs.Common.{◌≡◌, None, List, sym, subst}
 use Rattle.std.proofs.lemmas.Result.{err_from_is_err_and}
 use Rattle.node_core.specs.declared.Answer.{Answer}
-use Rattle.cluster_world.specs.Held.{Held}
+use Rattle.cluster_world.specs.WorldState.{WorldState}
 use Rattle.cluster_world.specs.Finishing.{next_to_finish}
 use Rattle.cluster_world.specs.Seen.{names_of, named}
 use Rattle.cluster_world.specs.Settling.{PlaysOn}
@@ -77,5 +77,5 @@ returns-in_err-settle_into-2-clause-waits g c =
 pub returns-clause-finished : goal.returns-clause-finished
 returns-clause-finished g c =
     let n = at_false _ _ c.in_ok-retry_into.field-0 c.if-branch.false c.in_ok-retry_into.ensures.retried in
-    subst (λ (h : Held). next_to_finish (names_of h) (named h) ≡ None) (sym n.1)
+    subst (λ (h : WorldState). next_to_finish (names_of h) (named h) ≡ None) (sym n.1)
     (finish_ended c.loop-self.self c.loop-self.invariant.quiet n.0)

@@ -1,6 +1,6 @@
 use Rattle.std.proofs.Common.{ℕ, List, ◌≡◌, ◌∙◌, Some, None, ap, sym, subst}
 use Rattle.getting_through.specs.NamedFinishing.{first_refused}
-use Rattle.cluster_world.specs.Held.{Held}
+use Rattle.cluster_world.specs.WorldState.{WorldState}
 use Rattle.cluster_world.specs.Finishing.{seems_refused}
 use Rattle.cluster_world.specs.Playing.{WaitsOn}
 use Rattle.cluster_world.specs.Seen.{names_of, named}
@@ -10,9 +10,9 @@ use Rattle.cluster_world.proofs.world.World.first_refused.Goals as goal
 
 pub returns-then-is_refused-clause-first : goal.returns-then-is_refused-clause-first
 returns-then-is_refused-clause-first g c =
-    subst (λ (k : Held). Some c.copy.result ≡ first_refused (names_of k) (named k)) c.self.view_is
+    subst (λ (k : WorldState). Some c.copy.result ≡ first_refused (names_of k) (named k)) c.self.view_is
     (this_refused _ c.self.invariant c.departed-departed.ensures.left
-    (subst (λ (k : Held). WaitsOn None k) (sym c.self.view_is) c.requires)
+    (subst (λ (k : WorldState). WaitsOn None k) (sym c.self.view_is) c.requires)
     c.deref-core-items.result.now c.loop-core.core-index c.core-item.result c.copy.result c.deref-core-items.ensures.value
     c.loop-core-test.true c.core-item.is
     (subst (λ (ds : List ℕ). NonePasses (seems_refused ds) c.loop-core.core-index c.deref-core-items.result.now)
@@ -29,9 +29,9 @@ loop-core-preserved g c =
 
 pub returns-clause-first : goal.returns-clause-first
 returns-clause-first g c =
-    subst (λ (k : Held). None ≡ first_refused (names_of k) (named k)) c.self.view_is
+    subst (λ (k : WorldState). None ≡ first_refused (names_of k) (named k)) c.self.view_is
     (none_refused _ c.self.invariant c.departed-departed.ensures.left
-    (subst (λ (k : Held). WaitsOn None k) (sym c.self.view_is) c.requires)
+    (subst (λ (k : WorldState). WaitsOn None k) (sym c.self.view_is) c.requires)
     c.deref-core-items.result.now c.loop-core.core-index c.deref-core-items.ensures.value c.loop-core-test.false
     (subst (λ (ds : List ℕ). NonePasses (seems_refused ds) c.loop-core.core-index c.deref-core-items.result.now)
     c.departed-departed.ensures.departed c.loop-core.invariant))

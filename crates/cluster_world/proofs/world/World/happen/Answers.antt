@@ -3,17 +3,17 @@ use Rattle.std.proofs.lemmas.Result.{err_from_is_err_and}
 use Rattle.term.specs.NodeSets.{set_of}
 use Rattle.node_core.specs.declared.Answer.{Answer}
 use Rattle.node_core.specs.declared.Event.{Event as NodeEvent}
-use Rattle.node_core.specs.Held.{Held as Core}
+use Rattle.node_core.specs.CoreState.{CoreState}
 use Rattle.node_core.specs.NodeEventsSeen.{entry_by}
 use Rattle.node_core.specs.Rare.{most_entries, most_answers}
 use Rattle.node_core.specs.Steps.{Steps, refusal_of}
 use Rattle.protocol_model.specs.Links.{Links, posted}
-use Rattle.link.specs.Held.{place}
+use Rattle.link.specs.MeshState.{place}
 use Rattle.node_core.specs.declared.Letter.{Letter}
 use Rattle.world_events.specs.declared.events.WorldEvent.TheVariants.{At}
 use Rattle.world_history.specs.declared.entry.HistoryEntry.{HistoryEntry}
 use Rattle.world_history.specs.Histories.{entries_of}
-use Rattle.cluster_world.specs.Held.{Held}
+use Rattle.cluster_world.specs.WorldState.{WorldState}
 use Rattle.cluster_world.specs.Histories.{number_at}
 use Rattle.cluster_world.specs.Links.{letters_to}
 use Rattle.cluster_world.specs.Playing.{Played}
@@ -75,7 +75,7 @@ take_in-answers-requires-clause-within g c =
 pub take_in-answers-requires-clause-room : goal.take_in-answers-requires-clause-room
 take_in-answers-requires-clause-room g c =
     less_fits _ (most_entries c.index_mut-core.result.now) _ c.in_ok-turn.ensures.few.entries
-    (subst (λ (k : Core). min (2 ^ 64 - 1) (most_entries k) ≤ c.make_room.new.history.room)
+    (subst (λ (k : CoreState). min (2 ^ 64 - 1) (most_entries k) ≤ c.make_room.new.history.room)
     (same_core c.args.self.now _ c.self.view_is c.args.place c.index_mut-core.result.now c.index_mut-core.ensures.value
     (within _ c.self.invariant c.args.node.now c.args.place c.index_mut-core.result.now
     (own_place _ c.self.invariant c.make_room.ensures.left c.args.place c.args.node.now c.args.event.now
@@ -108,7 +108,7 @@ invariant_of-self-then-is_leave g c =
     ∙ ap (λ (es : List HistoryEntry). entries_of es
     ++ map (entry_by (number_at c.deref.result.now c.args.node.now c.join_of-own.result)) c.in_ok-turn.turn.entries)
     c.make_room.ensures.entries
-    ∙ ap (λ (cs : List Core). entries_of c.self.inside.history.entries
+    ∙ ap (λ (cs : List CoreState). entries_of c.self.inside.history.entries
     ++ map (entry_by (number_at cs c.args.node.now c.join_of-own.result)) c.in_ok-turn.turn.entries)
     c.deref.ensures.value)
     (sym c.is_leave.ensures ∙ c.if-is_leave.true) c.close_out.new.self c.close_out.ensures.nodes c.close_out.ensures.links
@@ -127,7 +127,7 @@ invariant_of-self-else-is_leave g c =
     ∙ ap (λ (es : List HistoryEntry). entries_of es
     ++ map (entry_by (number_at c.deref.result.now c.args.node.now c.join_of-own.result)) c.in_ok-turn.turn.entries)
     c.make_room.ensures.entries
-    ∙ ap (λ (cs : List Core). entries_of c.self.inside.history.entries
+    ∙ ap (λ (cs : List CoreState). entries_of c.self.inside.history.entries
     ++ map (entry_by (number_at cs c.args.node.now c.join_of-own.result)) c.in_ok-turn.turn.entries)
     c.deref.ensures.value)
     (sym c.is_leave.ensures ∙ c.if-is_leave.false)
@@ -144,7 +144,7 @@ returns-clause-kept g c = elim c.if-is_leave.branch [
 
 pub returns-clause-ok : goal.returns-clause-ok
 returns-clause-ok g c = elim c.if-is_leave.branch [
-  | then-is_leave w ↦ subst (λ (k : Held). Played (At c.args.node.now c.args.event.now) c.args.self.now k []
+  | then-is_leave w ↦ subst (λ (k : WorldState). Played (At c.args.node.now c.args.event.now) c.args.self.now k []
       c.take_in-answers.result.0.items) (sym w.self-is)
       (answers_are c.take_in-answers.ensures.answers
       (played c.args.self.now _ c.self.view_is (At c.args.node.now c.args.event.now) _ _
@@ -160,11 +160,11 @@ returns-clause-ok g c = elim c.if-is_leave.branch [
       ∙ ap (λ (es : List HistoryEntry). entries_of es
       ++ map (entry_by (number_at c.deref.result.now c.args.node.now c.join_of-own.result)) c.in_ok-turn.turn.entries)
       c.make_room.ensures.entries
-      ∙ ap (λ (cs : List Core). entries_of c.self.inside.history.entries
+      ∙ ap (λ (cs : List CoreState). entries_of c.self.inside.history.entries
       ++ map (entry_by (number_at cs c.args.node.now c.join_of-own.result)) c.in_ok-turn.turn.entries)
       c.deref.ensures.value)
       (sym c.is_leave.ensures ∙ w.if-is_leave.true) w.close_out.new.self w.close_out.ensures.nodes w.close_out.ensures.links)))
-  | else-is_leave w ↦ subst (λ (k : Held). Played (At c.args.node.now c.args.event.now) c.args.self.now k []
+  | else-is_leave w ↦ subst (λ (k : WorldState). Played (At c.args.node.now c.args.event.now) c.args.self.now k []
       c.take_in-answers.result.0.items) (sym w.self-is)
       (answers_are c.take_in-answers.ensures.answers
       (played c.args.self.now _ c.self.view_is (At c.args.node.now c.args.event.now) _ _
@@ -180,7 +180,7 @@ returns-clause-ok g c = elim c.if-is_leave.branch [
       ∙ ap (λ (es : List HistoryEntry). entries_of es
       ++ map (entry_by (number_at c.deref.result.now c.args.node.now c.join_of-own.result)) c.in_ok-turn.turn.entries)
       c.make_room.ensures.entries
-      ∙ ap (λ (cs : List Core). entries_of c.self.inside.history.entries
+      ∙ ap (λ (cs : List CoreState). entries_of c.self.inside.history.entries
       ++ map (entry_by (number_at cs c.args.node.now c.join_of-own.result)) c.in_ok-turn.turn.entries)
       c.deref.ensures.value)
       (sym c.is_leave.ensures ∙ w.if-is_leave.false))))

@@ -1,13 +1,13 @@
 use Rattle.std.proofs.Common.{ℕ, List, ◌≡◌, ◌∙◌, Some, None, ap, sym, subst}
 use Rattle.protocol_model.specs.World.{holder}
-use Rattle.cluster_world.specs.Held.{Held}
+use Rattle.cluster_world.specs.WorldState.{WorldState}
 use Rattle.cluster_world.specs.Seen.{opening_of, seen, is_holding}
 use Rattle.cluster_world.proofs.Holding.{NobodyBefore, this_core, nobody_more, no_core_holds}
 use Rattle.cluster_world.proofs.world.World.holder.Goals as goal
 
 pub returns-then-is_holder : goal.returns-then-is_holder
 returns-then-is_holder g c =
-    subst (λ (k : Held). Some c.copy.result ≡ holder (opening_of k) (seen k)) c.self.view_is
+    subst (λ (k : WorldState). Some c.copy.result ≡ holder (opening_of k) (seen k)) c.self.view_is
     (this_core _ c.deref-core-items.result.now c.loop-core.core-index c.core-item.result c.copy.result c.self.invariant
     c.departed-departed.ensures.left c.deref-core-items.ensures.value
     c.loop-core-test.true c.core-item.is
@@ -25,7 +25,7 @@ loop-core-preserved g c =
 
 pub returns : goal.returns
 returns g c =
-    subst (λ (k : Held). None ≡ holder (opening_of k) (seen k)) c.self.view_is
+    subst (λ (k : WorldState). None ≡ holder (opening_of k) (seen k)) c.self.view_is
     (no_core_holds _ c.deref-core-items.result.now c.loop-core.core-index c.self.invariant
     c.departed-departed.ensures.left c.deref-core-items.ensures.value c.loop-core-test.false
     (subst (λ (ds : List ℕ). NobodyBefore ds c.loop-core.core-index c.deref-core-items.result.now) c.departed-departed.ensures.departed

@@ -1,9 +1,9 @@
 use Rattle.std.proofs.Common.{ℕ, [], ◌≤◌, ◌∙◌, ◌++◌, List, get_or, length, ap, sym, subst}
 use Rattle.node_core.specs.declared.Answer.{Answer}
-use Rattle.node_core.specs.Held.{Held as Core}
+use Rattle.node_core.specs.CoreState.{CoreState}
 use Rattle.node_core.specs.Rare.{most_answers}
 use Rattle.world_events.specs.declared.events.WorldEvent.{WorldEvent}
-use Rattle.cluster_world.specs.Held.{Held}
+use Rattle.cluster_world.specs.WorldState.{WorldState}
 use Rattle.cluster_world.specs.Playing.{Played}
 use Rattle.cluster_world.specs.Steps.{AreFew}
 use Rattle.cluster_world.proofs.Running.{played_behind, appended, fits_behind}
@@ -24,8 +24,8 @@ returns-clause-ok g c =
     c.in_ok-admitted.ensures.event c.in_ok-given.ensures.ok))
   where
     few : length c.in_ok-given.given.items ≤ most_answers c.index.result.now
-    few = subst (λ (k : Core). length c.in_ok-given.given.items ≤ most_answers k)
-        (ap (λ (k : Held). get_or k.cores c.place.result c.index.result.now) (sym c.self.view_is)
+    few = subst (λ (k : CoreState). length c.in_ok-given.given.items ≤ most_answers k)
+        (ap (λ (k : WorldState). get_or k.cores c.place.result c.index.result.now) (sym c.self.view_is)
         ∙ sym c.index.ensures)
         (subst (λ (p : ℕ). AreFew p c.args.self.now c.in_ok-given.given.items) (sym c.place.ensures) c.in_ok-given.ensures.few
         c.index.result.now)

@@ -1,10 +1,10 @@
 use Rattle.std.proofs.Common.{[], sym, subst}
 use Rattle.std.proofs.lemmas.Option.{MatchOption-at_none}
 use Rattle.std.proofs.lemmas.Result.{IfOk-weaker, IfErr-weaker}
-use Rattle.world_events.specs.declared.events.Event.TheVariants.{Retry}
+use Rattle.world_events.specs.declared.events.LocalEvent.TheVariants.{Retry}
 use Rattle.world_events.specs.declared.events.WorldEvent.TheVariants.{At, Deliver}
 use Rattle.world_events.specs.declared.refusal.Refusal.{Refusal}
-use Rattle.cluster_world.specs.Held.{Held}
+use Rattle.cluster_world.specs.WorldState.{WorldState}
 use Rattle.cluster_world.specs.Playing.{Played, RefusedWith}
 use Rattle.cluster_world.specs.Seats.{PlaysNext, RefusesNext}
 use Rattle.cluster_world.proofs.Seats.{next_retry, next_delivered}
@@ -18,7 +18,7 @@ returns-in-Ok-None-clause-ok g c =
     (λ given played. record {
       event = At c.copy.result Retry;
       next = next_retry c.args.self.now c.args.node.now c.copy.result c.copy.ensures nothing.0;
-      played = subst (λ (h : Held). Played (At c.copy.result Retry) h c.play.new.self [] given.items) nothing.1 played;
+      played = subst (λ (h : WorldState). Played (At c.copy.result Retry) h c.play.new.self [] given.items) nothing.1 played;
     }) c.play.ensures.ok
 
 pub returns-in-Ok-None-clause-refused : goal.returns-in-Ok-None-clause-refused
@@ -29,7 +29,7 @@ returns-in-Ok-None-clause-refused g c =
     (λ why refused. record {
       event = At c.copy.result Retry;
       next = next_retry c.args.self.now c.args.node.now c.copy.result c.copy.ensures nothing.0;
-      refused = subst (λ (h : Held). RefusedWith why (At c.copy.result Retry) h) nothing.1 refused;
+      refused = subst (λ (h : WorldState). RefusedWith why (At c.copy.result Retry) h) nothing.1 refused;
     }) c.play.ensures.refused
 
 pub returns-in-Err-clause-refused : goal.returns-in-Err-clause-refused

@@ -2,7 +2,7 @@ use Rattle.std.proofs.Common.{ℕ, List, [], map, refl, sym, ap, subst, ◌∙�
 use Rattle.std.specs.List.{All}
 use Rattle.term.specs.Nodes.{IsFirst}
 use Rattle.term.specs.NodeSets.{set_of}
-use Rattle.cluster_world.specs.NodeCoreHeld.{AreOf}
+use Rattle.cluster_world.specs.NodeCoreState.{AreOf}
 use Rattle.world_events.specs.Openings.{opening_core}
 use Rattle.cluster_world.proofs.Agreeing.{agreed}
 use Rattle.cluster_world.proofs.Leftovers.{nothing_left}

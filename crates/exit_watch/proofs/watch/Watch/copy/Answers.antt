@@ -1,7 +1,7 @@
 use Rattle.std.proofs.Common.{ℕ, List, ◌==◌, ◌∙◌, sym, ap}
 use Rattle.std.specs.List.{list_any}
 use Rattle.std.proofs.Math.Path.{ap₂}
-use Rattle.exit_watch.specs.Held.{Held}
+use Rattle.exit_watch.specs.WatchState.{WatchState}
 use Rattle.exit_watch.proofs.Sets.{same_numbers}
 use Rattle.exit_watch.proofs.watch.Watch.copy.Goals as goal
 
@@ -16,7 +16,7 @@ pub returns : goal.returns
 returns c =
     let suspects =
     same_numbers c.self.inside.suspects.keys c.in_ok-clone.field-0.keys c.in_ok-clone.ensures.cases in
-    let held : ℕ → List ℕ → List ℕ → Held = λ n ds ss. record {
+    let held : ℕ → List ℕ → List ℕ → WatchState = λ n ds ss. record {
       node = n;
       watch = record { last_serial = c.self.inside.last_serial; dead = ds };
       suspects = ss;

@@ -1,5 +1,5 @@
 use Rattle.std.proofs.Common.{◌≡◌, length}
-use Rattle.exit_watch.specs.Held.{AreSuspected}
+use Rattle.exit_watch.specs.WatchState.{AreSuspected}
 use Rattle.exit_watch.proofs.watch.Watch.owes.Given as goal
 
 abbrev pub invariant-loop-serial : goal.invariant-loop-serial

@@ -2,7 +2,7 @@ use Rattle.std.proofs.Common.{ℕ, ◌≡◌, subst}
 use Rattle.std.specs.Prelude.{OnOk, IfErr}
 use Rattle.protocol_model.specs.Links.{posted}
 use Rattle.link.specs.Faults.{IsUnsent}
-use Rattle.link.specs.Held.{seen, only_to}
+use Rattle.link.specs.MeshState.{seen, only_to}
 use Rattle.link.proofs.Places.{found_at}
 use Rattle.link.proofs.mesh.Mesh.send.Goals as goal
 

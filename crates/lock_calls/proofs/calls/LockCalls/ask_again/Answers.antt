@@ -1,5 +1,5 @@
 use Rattle.std.proofs.Common.{refl, ap}
-use Rattle.locker.specs.Held.{seen}
+use Rattle.locker.specs.RoundState.{seen}
 use Rattle.lock_calls.specs.Standing.{asking_again}
 use Rattle.lock_calls.proofs.Standing.{becomes-other, becomes-absent, becomes-filed, becomes-seen}
 use Rattle.lock_calls.proofs.calls.LockCalls.ask_again.Goals as goal

@@ -7,7 +7,7 @@ use Rattle.std.proofs.lemmas.Map.{keys-set_value}
 use Rattle.std.proofs.lemmas.Result.{err_from_is_err_and}
 use Rattle.lock_calls.specs.declared.call.LockCall.{LockCall}
 use Rattle.lock_calls.specs.Calls.{as_call}
-use Rattle.lock_calls.specs.Held.{IsOf}
+use Rattle.lock_calls.specs.LockCallsState.{IsOf}
 use Rattle.lock_calls.proofs.Among.{put_among}
 use Rattle.lock_calls.proofs.Filed.{filed-put, put_call-own, call_of-absent, written-put}
 use Rattle.lock_calls.proofs.Ordered.{ordered_in}

@@ -4,7 +4,7 @@ use Rattle.std.specs.Map.{values_of}
 use Rattle.std.specs.Option.{option_map}
 use Rattle.lock_calls.specs.declared.call.LockCall.{LockCall}
 use Rattle.lock_calls.specs.Calls.{as_call}
-use Rattle.lock_calls.specs.Held.{IsOf}
+use Rattle.lock_calls.specs.LockCallsState.{IsOf}
 use Rattle.lock_calls.proofs.Among.{among_itself, removed_among, found_among}
 use Rattle.lock_calls.proofs.Filed.{call_of-other, call_of-own, drop_call-other, drop_call-own, filed-remove_entry}
 use Rattle.lock_calls.proofs.Ordered.{ordered_in}

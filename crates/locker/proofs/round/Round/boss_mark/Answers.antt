@@ -1,6 +1,6 @@
 use Rattle.std.proofs.Common.{◌-◌, length, sym, ap, ◌∙◌, arith}
 use Rattle.std.proofs.lemmas.List.{get_or_default}
-use Rattle.locker.specs.Held.{as_mark}
+use Rattle.locker.specs.RoundState.{as_mark}
 use Rattle.locker.specs.declared.mark.Mark.TheVariants.{Later, Gone}
 use Rattle.locker.proofs.Marks.{mark_at-boss}
 use Rattle.locker.proofs.round.Round.boss_mark.Goals as goal

@@ -1,7 +1,7 @@
 use Rattle.std.proofs.Common.{sym, ap, ◌∙◌, arith}
 use Rattle.std.proofs.lemmas.List.{get_or_default}
 use Rattle.protocol_model.specs.Round.{mark_down}
-use Rattle.locker.specs.Held.{as_mark}
+use Rattle.locker.specs.RoundState.{as_mark}
 use Rattle.locker.specs.declared.mark.Mark.{Mark}
 use Rattle.locker.specs.declared.mark.Mark.TheVariants.{Later, Gone}
 use Rattle.locker.proofs.Rounds.{seen-down}

@@ -2,7 +2,7 @@ use Rattle.std.proofs.Common.{Bool, sym, ap, ◌∙◌, subst}
 use Rattle.std.specs.Prelude.{if◌then◌else◌}
 use Rattle.protocol_model.specs.Round as protocol
 use Rattle.term.specs.NodeSets.{set_of}
-use Rattle.locker.specs.Held.{seen}
+use Rattle.locker.specs.RoundState.{seen}
 use Rattle.locker.specs.Ends.{granted_by, EndsAs}
 use Rattle.locker.specs.declared.ending.Ending.{Ending}
 use Rattle.locker.specs.declared.ending.Ending.TheVariants.{Held, GiveBack}

@@ -3,7 +3,7 @@ use Rattle.std.specs.List.{filter}
 use Rattle.std.proofs.lemmas.List.{get_or_default}
 use Rattle.protocol_model.specs.Round.{granted}
 use Rattle.term.specs.NodeSets.{IsNodeSet, without_node}
-use Rattle.locker.specs.Held.{Held, seen}
+use Rattle.locker.specs.RoundState.{RoundState, seen}
 use Rattle.locker.proofs.Lists.{passing_or_from-zero, passing_or_from-all, passing_or_from-kept, passing_or_from-left}
 use Rattle.locker.proofs.round.Round.granted.Goals as goal
 use Rattle.locker.proofs.round.Round.granted.Goals.{then-not-has_grant, else-not-has_grant}
@@ -36,4 +36,4 @@ returns c =
     ∙ passing_or_from-all
     (granted (seen c.args.self.now)) c.loop-node.node-index c.as_slice-node-items.result.now c.loop-node-test.false
     ∙ ap (λ (nodes : List ℕ). filter (granted (seen c.args.self.now)) nodes)
-    (c.as_slice-node-items.ensures.nodes ∙ ap (λ (h : Held). h.nodes) c.self.view_is)
+    (c.as_slice-node-items.ensures.nodes ∙ ap (λ (h : RoundState). h.nodes) c.self.view_is)

@@ -1,6 +1,6 @@
 use Rattle.std.proofs.Common.{◌≡◌}
 use Rattle.protocol_model.specs.Round.{granted}
-use Rattle.locker.specs.Held.{seen}
+use Rattle.locker.specs.RoundState.{seen}
 use Rattle.locker.proofs.Lists.{passing_or_from}
 use Rattle.locker.proofs.round.Round.granted.Given as goal
 

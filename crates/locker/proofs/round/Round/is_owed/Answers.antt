@@ -1,7 +1,7 @@
 use Rattle.std.proofs.Common.{ap, ◌∙◌}
 use Rattle.std.specs.List.{list_any}
 use Rattle.protocol_model.specs.Round.{is_owes}
-use Rattle.locker.specs.Held.{as_mark}
+use Rattle.locker.specs.RoundState.{as_mark}
 use Rattle.locker.proofs.Marks.{any_mark}
 use Rattle.locker.proofs.round.Round.is_owed.Goals as goal
 

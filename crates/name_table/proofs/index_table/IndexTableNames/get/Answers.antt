@@ -1,6 +1,6 @@
 use Rattle.std.proofs.Common.{ap, sym, ◌∙◌, Some}
 use Rattle.registry_model.specs.Table.{entry}
-use Rattle.name_table.specs.declared.change.Entry.{Entry}
+use Rattle.name_table.specs.declared.change.Registration.{Registration}
 use Rattle.name_table.specs.Changes.{pair_under}
 use Rattle.name_table.proofs.Index.{entry-table_of}
 use Rattle.name_table.proofs.index_table.IndexTableNames.get.Goals as goal
@@ -12,5 +12,5 @@ returns-in_err-entry g c =
 
 pub returns : goal.returns
 returns g c =
-    ap (pair_under c.args.name.now) (ap (λ (e : Entry). Some e) c.copy.ensures ∙ c.in_ok-entry.ensures.value)
+    ap (pair_under c.args.name.now) (ap (λ (e : Registration). Some e) c.copy.ensures ∙ c.in_ok-entry.ensures.value)
     ∙ sym (entry-table_of c.self.inside.owners.entries c.args.name.now) ∙ ap (entry c.args.name.now) c.self.view_is

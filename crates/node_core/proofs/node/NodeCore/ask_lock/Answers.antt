@@ -1,7 +1,7 @@
 use Rattle.std.proofs.Common.{sym, subst}
 use Rattle.std.proofs.lemmas.Result.{on_ok_weaker}
 use Rattle.lock_calls.specs.declared.call.CallPhase.TheVariants.{Asking}
-use Rattle.node_core.specs.Held.{Held, IsWithin}
+use Rattle.node_core.specs.CoreState.{CoreState, IsWithin}
 use Rattle.node_core.proofs.Locking.{whole_put, begun_within, asks_lock}
 use Rattle.node_core.proofs.node.NodeCore.ask_lock.Goals as goal
 
@@ -9,7 +9,7 @@ pub invariant_of-self : goal.invariant_of-self
 invariant_of-self g c =
     whole_put _ c.put.new.self (record c.args.call { phase = Asking c.begin.result }) c.put.result c.self.invariant
     (begun_within c.self.inside.world c.args.nodes.now c.begin.result c.begin.ensures.nodes
-    (subst (λ (h : Held). IsWithin h.world c.args.nodes.now) (sym c.self.view_is) c.requires.within))
+    (subst (λ (h : CoreState). IsWithin h.world c.args.nodes.now) (sym c.self.view_is) c.requires.within))
     c.put.ensures.node c.put.ensures.ok c.put.ensures.unchanged
 
 pub returns-clause-turn : goal.returns-clause-turn

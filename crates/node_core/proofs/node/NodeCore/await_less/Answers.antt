@@ -1,6 +1,6 @@
 use Rattle.std.proofs.Common.{ap, sym, ◌∙◌}
 use Rattle.std.specs.Prelude.{is_some}
-use Rattle.node_core.specs.Held.{Held}
+use Rattle.node_core.specs.CoreState.{CoreState}
 use Rattle.node_core.proofs.Rules.{whole_less, last_awaited, more_awaited}
 use Rattle.node_core.proofs.node.NodeCore.await_less.Goals.{in-Writing, in_default}
 use Rattle.node_core.proofs.node.NodeCore.await_less.Goals as goal
@@ -17,7 +17,7 @@ returns-then-not-is_done-clause-turn g c =
       | in-Writing w ↦ more_awaited _ c.args.self.now c.args.turn.now c.applied.new.self c.args.from.now
           w.in-Writing.field-0 w.in-Writing.field-1 c.self.view_is
           c.self.invariant (cc w.in-Writing.is) (cc was) c.applied.ensures.state
-          (ap (λ (h : Held). is_some h.registrar.current) c.self.view_is ∙ sym c.is_at_work.ensures
+          (ap (λ (h : CoreState). is_some h.registrar.current) c.self.view_is ∙ sym c.is_at_work.ensures
           ∙ c.if-not-is_at_work.false) (cc left)
       | in_default w ↦ let matches = c.if-not-matches.false in let none = w.matches-is in cc
     ]
@@ -30,5 +30,5 @@ returns-in-Writing-replace-clause-turn g c =
     c.in-Writing-replace.asked c.in-Writing-replace.reply c.self.view_is
     c.self.invariant (sym c.replace.ensures.value ∙ c.in-Writing-replace.is) (cc was) c.applied.ensures.state
     c.done.new.self c.done.new.turn c.replace.new.dest
-    (ap (λ (h : Held). is_some h.registrar.current) c.self.view_is ∙ sym c.is_at_work.ensures
+    (ap (λ (h : CoreState). is_some h.registrar.current) c.self.view_is ∙ sym c.is_at_work.ensures
     ∙ c.if-not-is_at_work.false) (cc left) c.done.ensures.turn

@@ -1,7 +1,7 @@
 use Rattle.std.proofs.Common.{sym, subst}
 use Rattle.std.proofs.lemmas.Result.{on_ok_weaker}
 use Rattle.lock_calls.specs.declared.call.CallPhase.TheVariants.{Deleting}
-use Rattle.node_core.specs.Held.{Held, IsWithin}
+use Rattle.node_core.specs.CoreState.{CoreState, IsWithin}
 use Rattle.node_core.proofs.Locking.{whole_put, deletes_none, deletes_some}
 use Rattle.node_core.proofs.node.NodeCore.delete_lock.Goals as goal
 
@@ -15,7 +15,7 @@ pub invariant_of-self : goal.invariant_of-self
 invariant_of-self g c =
     whole_put _ c.put.new.self (record c.args.call { phase = Deleting c.targets-nodes.result }) c.put.result
     c.self.invariant
-    (subst (λ (h : Held). IsWithin h.world c.targets-nodes.result) (sym c.self.view_is) c.targets-nodes.ensures.within)
+    (subst (λ (h : CoreState). IsWithin h.world c.targets-nodes.result) (sym c.self.view_is) c.targets-nodes.ensures.within)
     c.put.ensures.node c.put.ensures.ok c.put.ensures.unchanged
 
 pub returns-clause-turn : goal.returns-clause-turn

@@ -6,15 +6,15 @@ use Rattle.registry_model.specs.Settlement.{settle}
 use Rattle.protocol_model.specs.Node.{Op as AnyOp}
 use Rattle.transaction.specs.declared.op.Op.{Op}
 use Rattle.transaction.specs.Ops.{op_of}
-use Rattle.node_core.specs.Held.{Held}
+use Rattle.node_core.specs.CoreState.{CoreState}
 use Rattle.node_core.specs.Joining.{IsAdmitting}
 use Rattle.node_core.proofs.Joining.{decides_admission}
 use Rattle.node_core.proofs.node.NodeCore.held.Goals as goal
 
-admitting_is : (h0 h : Held) (op : Op) (i j : ℕ) (pairs : Table) → h0 ≡ h → h0.registrar.current ≡ Some op
+admitting_is : (h0 h : CoreState) (op : Op) (i j : ℕ) (pairs : Table) → h0 ≡ h → h0.registrar.current ≡ Some op
     → op_of op ≡ AnyOp.Admission i pairs → j ≡ i → IsAdmitting h j pairs
 admitting_is h0 h op i j pairs same current is joiner =
-    ap (λ (x : Held). option_map op_of x.registrar.current) (sym same) ∙ ap (option_map op_of) current ∙ ap Some is
+    ap (λ (x : CoreState). option_map op_of x.registrar.current) (sym same) ∙ ap (option_map op_of) current ∙ ap Some is
     ∙ ap (λ (d : ℕ). Some (AnyOp.Admission d pairs)) (sym joiner)
 
 pub returns-in_ok-settled-in-Some-Admission-clause-turn : goal.returns-in_ok-settled-in-Some-Admission-clause-turn
@@ -28,4 +28,4 @@ returns-in_ok-settled-in-Some-Admission-clause-turn g c =
     (c.decide_admission.ensures.turn c.in-Some-Admission.pairs.items admitting
     (c.in_ok-settled-in-Some-Admission.ensures
     ∙ ap (λ (ps : List Pair). settle (g.N.Names.contents c.self.inside.table) ps) c.as_slice.ensures.value
-    ∙ ap (λ (h : Held). settle h.table c.in-Some-Admission.pairs.items) c.self.view_is))
+    ∙ ap (λ (h : CoreState). settle h.table c.in-Some-Admission.pairs.items) c.self.view_is))

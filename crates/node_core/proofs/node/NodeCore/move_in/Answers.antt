@@ -1,7 +1,7 @@
 use Rattle.std.proofs.Common.{true, ◌≡◌, sym, subst, ◌∙◌}
 use Rattle.registry_model.specs.Table.{Table, is_rising, without}
 use Rattle.term.specs.NodeSets.{with_older}
-use Rattle.node_core.specs.Held.{Held}
+use Rattle.node_core.specs.CoreState.{CoreState}
 use Rattle.node_core.specs.Joining.{IsWelcomeTo}
 use Rattle.node_core.proofs.Joining.{IsTold, told_either, told_before, whole_moved, moves_in}
 use Rattle.node_core.proofs.node.NodeCore.move_in.Goals.{then-reaches, else-reaches}
@@ -36,7 +36,7 @@ returns-clause-turn g c = λ made to.
     ])
     c.beyond.ensures
     c.with_within-self-inside.ensures
-    (subst (λ (h : Held). IsWelcomeTo h.world h.name c.args.welcome.now) (sym c.self.view_is) to)
+    (subst (λ (h : CoreState). IsWelcomeTo h.world h.name c.args.welcome.now) (sym c.self.view_is) to)
     c.args.self.now made c.self.view_is c.table_of.ensures.watch
     (subst (λ (ps : Table). is_rising ps ≡ true → g.N.Names.contents c.in_ok-self-inside.field-0
     ≡ without (with_older c.if-reaches.told) ps) c.as_slice.ensures.value c.in_ok-self-inside.ensures.table)

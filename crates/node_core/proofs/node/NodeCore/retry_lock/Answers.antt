@@ -1,6 +1,6 @@
 use Rattle.std.proofs.Common.{sym, subst, ◌∙◌}
 use Rattle.lock_calls.specs.Calls.{as_call}
-use Rattle.node_core.specs.Held.{Held, IsWithin}
+use Rattle.node_core.specs.CoreState.{CoreState, IsWithin}
 use Rattle.node_core.proofs.Locking.{begun_within}
 use Rattle.node_core.proofs.CallEnds.{same_found}
 use Rattle.node_core.proofs.CallsOf.{waiting_is, retries_none, retries_some, whole_again}
@@ -13,7 +13,7 @@ invariant_of-self g c =
     (same_found _ c.args.self.now c.args.holder.now (as_call c.in-Some.call.now) c.self.view_is
     c.in-Some.ensures.call) c.ask_again.ensures.calls c.ask_again.ensures.node
     (begun_within c.self.inside.world c.targets-nodes.result c.begin.result c.begin.ensures.nodes
-    (subst (λ (h : Held). IsWithin h.world c.targets-nodes.result) (sym c.self.view_is)
+    (subst (λ (h : CoreState). IsWithin h.world c.targets-nodes.result) (sym c.self.view_is)
     c.targets-nodes.ensures.within)) c.self.invariant
 
 pub returns-then-is_empty-clause-turn : goal.returns-then-is_empty-clause-turn

@@ -1,6 +1,6 @@
 use Rattle.std.proofs.Common.{map, ap, sym, subst, take, take_all, ◌∙◌}
-use Rattle.lock_calls.specs.Held.{AreOrdered, seen}
-use Rattle.node_core.specs.Held.{Held}
+use Rattle.lock_calls.specs.LockCallsState.{AreOrdered, seen}
+use Rattle.node_core.specs.CoreState.{CoreState}
 use Rattle.node_core.proofs.Each.{retries_all}
 use Rattle.node_core.proofs.node.NodeCore.retry_locks.Goals as goal
 
@@ -8,7 +8,7 @@ pub returns-clause-turn : goal.returns-clause-turn
 returns-clause-turn g c =
     retries_all _ c.args.self.now c.loop-holder.self c.args.turn.now c.loop-holder.turn
     (take c.loop-holder.holder-index c.args.holders.now) c.self.view_is c.self.invariant
-    (subst (λ (h : Held). AreOrdered h.calls.node (seen h.calls)) (sym c.self.view_is) c.requires.ordered)
+    (subst (λ (h : CoreState). AreOrdered h.calls.node (seen h.calls)) (sym c.self.view_is) c.requires.ordered)
     (take_all c.loop-holder.holder-index c.args.holders.now c.loop-holder-test.false ∙ c.requires.holders
-    ∙ ap (λ (h : Held). map (λ c. c.holder) h.calls.calls) (sym c.self.view_is))
+    ∙ ap (λ (h : CoreState). map (λ c. c.holder) h.calls.calls) (sym c.self.view_is))
     c.loop-holder.invariant.makes

@@ -1,15 +1,15 @@
 use Rattle.std.proofs.Common.{true, ◌≡◌, ◌∙◌, ap, sym, subst}
 use Rattle.term.specs.NodeSets.{IsNodeSet, set_of}
 use Rattle.exchange.specs.Bodies.{welcome_letter}
-use Rattle.node_core.specs.Held.{Held}
+use Rattle.node_core.specs.CoreState.{CoreState}
 use Rattle.node_core.proofs.Joining.{room_for, welcomed_by}
 use Rattle.node_core.proofs.node.NodeCore.send_welcome.Goals as goal
 
 pub welcome_of-requires : goal.welcome_of-requires
 welcome_of-requires g c =
     room_for c.self.inside.world c.self.inside.members c.args.joiner.now c.len-fits.ensures.set
-    (subst (λ (h : Held). IsNodeSet h.members) (sym c.self.view_is) c.requires.members) c.self.invariant.members
-    (subst (λ (h : Held). set_of h.world c.args.joiner.now ≡ true) (sym c.self.view_is) c.requires.joiner)
+    (subst (λ (h : CoreState). IsNodeSet h.members) (sym c.self.view_is) c.requires.members) c.self.invariant.members
+    (subst (λ (h : CoreState). set_of h.world c.args.joiner.now ≡ true) (sym c.self.view_is) c.requires.joiner)
 
 pub returns-clause-welcomed : goal.returns-clause-welcomed
 returns-clause-welcomed g c =

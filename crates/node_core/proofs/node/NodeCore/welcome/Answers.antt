@@ -1,7 +1,7 @@
 use Rattle.std.proofs.Common.{List, sym, subst}
 use Rattle.registry_model.specs.Process.{Process}
 use Rattle.protocol_model.specs.Calling.{kill}
-use Rattle.node_core.specs.Held.{Held}
+use Rattle.node_core.specs.CoreState.{CoreState}
 use Rattle.node_core.specs.Joining.{IsWelcomeTo}
 use Rattle.node_events.specs.Seen.{unnumbered}
 use Rattle.node_core.specs.Steps.{Makes}
@@ -19,7 +19,7 @@ returns-clause-turn g c = λ to.
     (arrives _ c.move_in.new.self c.note.new.self c.args.turn.now (set_of c.args.body.now.members)
     c.args.body.now.pairs.items (with_older c.args.body.now.told) (fate_in c.args.body.now)
     (c.in_ok-move_in.ensures.turn c.args.turn.now
-    (subst (λ (h : Held). IsWelcomeTo h.world h.name c.args.body.now) (sym c.self.view_is) to))
+    (subst (λ (h : CoreState). IsWelcomeTo h.world h.name c.args.body.now) (sym c.self.view_is) to))
     (c.in_ok-note.ensures.turn c.args.turn.now (fate_in c.args.body.now) (sym c.as_slice.ensures.value)))
     (roomier c.reserve.ensures.made
     (subst (λ (ps : List Process). Makes (λ n a. kill n a ps) c.note.new.self c.args.turn.now c.kill.new.self

@@ -1,5 +1,5 @@
 use Rattle.std.proofs.Common.{sym, subst}
-use Rattle.node_core.specs.Held.{Held, IsWithin}
+use Rattle.node_core.specs.CoreState.{CoreState, IsWithin}
 use Rattle.node_core.proofs.Rules.{writes}
 use Rattle.node_core.proofs.Bounds.{of_world}
 use Rattle.node_core.proofs.Whole.{whole_writing}
@@ -9,7 +9,7 @@ pub invariant_of-self : goal.invariant_of-self
 invariant_of-self g c =
     whole_writing _ c.await_from.new.self c.self.inside.members c.args.asked c.args.reply c.self.invariant
     c.await_from.ensures (of_world c.self.inside.world c.self.inside.members c.self.invariant.members)
-    (subst (λ (h : Held). IsWithin h.world c.args.asked) (sym c.self.view_is) c.requires.within)
+    (subst (λ (h : CoreState). IsWithin h.world c.args.asked) (sym c.self.view_is) c.requires.within)
 
 pub returns-clause-turn : goal.returns-clause-turn
 returns-clause-turn g c =

@@ -1,5 +1,5 @@
 use Rattle.std.proofs.Common.{refl}
-use Rattle.exit_watch.specs.Held.{process_of}
+use Rattle.exit_watch.specs.WatchState.{process_of}
 use Rattle.exit_watch.proofs.Owners.{owns-changed}
 use Rattle.name_table.specs.Changes.{change_of}
 use Rattle.node_core.proofs.Noting.{not_put}

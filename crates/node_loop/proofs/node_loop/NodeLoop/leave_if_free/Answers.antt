@@ -1,7 +1,7 @@
 use Rattle.std.proofs.Common.{◌≡◌, true, Option, length, sym, ap, subst, ◌∙◌}
 use Rattle.std.specs.Option.{option_flatten}
 use Rattle.std.proofs.lemmas.Result.{err_from_is_err_and}
-use Rattle.node_log.specs.declared.Event.TheVariants.{Leave}
+use Rattle.node_log.specs.declared.LocalEvent.TheVariants.{Leave}
 use Rattle.node_loop.specs.declared.item.Ticket.{Ticket}
 use Rattle.node_loop.specs.Desks.{Begins, left_by}
 use Rattle.node_loop.specs.Held.{Looping, is_free_to_leave}

@@ -2,7 +2,7 @@ use Rattle.std.proofs.Common.{◌≡◌, ◌∙◌, true, Bool, Some, Result, Ok
 use Rattle.std.specs.Prelude.{◌&&◌, if◌then◌else◌}
 use Rattle.shared_table.specs.declared.Call.{Call}
 use Rattle.shared_table.specs.declared.Reply.{Reply}
-use Rattle.shared_table.specs.declared.Event.TheVariants.{Call as Calls}
+use Rattle.shared_table.specs.declared.LocalEvent.TheVariants.{Call as Calls}
 use Rattle.shared_table.specs.declared.WorldEvent.TheVariants.{At}
 use Rattle.shared_table.specs.declared.SeatEntry.{SeatEntry}
 use Rattle.shared_table.specs.declared.Effect.TheVariants.{Answered as IsAnswer}

@@ -1,6 +1,6 @@
 use Rattle.std.proofs.Common.{ℕ, ◌∙◌, None, Ok, List, [], ◌∷◌, ◌++◌, ap}
 use Rattle.registry_model.specs.Process.{Process}
-use Rattle.shared_table.specs.declared.Event.TheVariants.{Exit}
+use Rattle.shared_table.specs.declared.LocalEvent.TheVariants.{Exit}
 use Rattle.shared_table.specs.declared.WorldEvent.TheVariants.{At}
 use Rattle.shared_table.specs.declared.SeatEntry.{SeatEntry}
 use Rattle.shared_table.specs.declared.Effect.TheVariants.{Made}

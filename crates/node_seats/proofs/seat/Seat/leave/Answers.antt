@@ -1,5 +1,5 @@
 use Rattle.std.proofs.Common.{ℕ, ◌∙◌, None, Ok, List, [], ◌∷◌, ◌++◌, ap}
-use Rattle.shared_table.specs.declared.Event.TheVariants.{Leave}
+use Rattle.shared_table.specs.declared.LocalEvent.TheVariants.{Leave}
 use Rattle.shared_table.specs.declared.WorldEvent.TheVariants.{At}
 use Rattle.shared_table.specs.declared.SeatEntry.{SeatEntry}
 use Rattle.shared_table.specs.declared.Effect.TheVariants.{Left}

@@ -2,7 +2,7 @@ use Rattle.std.proofs.Common.{ℕ, ◌≡◌, ◌<◌, List, length, map, ◌∙
 use Rattle.node_loop.specs.declared.item.Item.{Item}
 use Rattle.node_loop.specs.Held.{Looping}
 use Rattle.node_loop.specs.Coming.{IsLoopOf}
-use Rattle.node_loop.specs.NodeCoreHeld.{Held}
+use Rattle.node_loop.specs.NodeCoreState.{CoreState}
 use Rattle.node_loop.specs.Sound.{BeginsSound}
 use Rattle.node_seats.specs.declared.Moment.{Moment}
 use Rattle.node_seats.specs.Moments.{shown_at}
@@ -47,7 +47,7 @@ invariant_of-result g c =
         came = subst (λ (n : ℕ). IsLoopOf n c.in_ok-own.own) (sym at)
             (comes_first c.args.opening.now.nodes c.args.opening.now.cluster c.args.node.now c.args.shared.now.stamp c.core.result c.in_ok-own.own
             c.in_ok-own.ensures.new c.core.ensures.opens);
-        sound = subst (λ (h : Held). BeginsSound h c.in_ok-own.own) (sym (ap (λ (l : Looping). l.core) c.in_ok-own.ensures.new))
+        sound = subst (λ (h : CoreState). BeginsSound h c.in_ok-own.own) (sym (ap (λ (l : Looping). l.core) c.in_ok-own.ensures.new))
             c.in_ok-own.ensures.sound;
         empty = c.in_ok-address.ensures.empty;
         fresh = ap (map unused) c.new-2.ensures.items ∙ sym c.new-2.ensures.items;
