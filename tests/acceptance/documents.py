@@ -24,6 +24,8 @@ LEFT_OUT = {".git", "out", "__pycache__"}
 PATH = re.compile(r"(?<![\w/.$~-])(?:\./)?((?:[\w.@*-]+/)+[\w.*-]*|[\w-]+\.(?:md|rt|antt|py|sh|script|txt|rs|edit|awk|c|status))(?![\w(/])")
 ENDINGS = re.compile(r"\.(?:md|rt|antt|py|sh|script|txt|rs|edit|awk|c|status)$")
 REMARK = re.compile(r"(?:--|//).*")
+# A type that a crate hands to others.
+PUBLIC_TYPE = re.compile(r"^pub (?:struct|enum|trait|type|union) (\w+)", re.M)
 # Rows as they might go stale, and what is said of each.
 PLANTED = [
     ("cluster_world", "| It is so | `World::play` (`ok`, `agreed`) |", "`agreed` is no clause of `play`"),
@@ -192,15 +194,25 @@ def map_has_each_crate(code):
     fail_for(wrong + [f"{it} stands in a floor, and is no crate" for it in words if "_" in it and it not in code.crates])
 
 
-def types_of_one_name_are_there(code):
-    """The table of docs/GLOSSARY.md that tells types of one name apart."""
-    text = read(f"{code.root}/docs/GLOSSARY.md").partition("\n## Types of one name\n")[2].partition("\n## ")[0]
-    rows = re.findall(r"^\| `(\w+)` \| `(\w+)` \|", text, re.M)
+def types_that_cross_crates_are_there(code):
+    """The table of docs/GLOSSARY.md that tells what the types are that crates hand to one another."""
+    text = read(f"{code.root}/docs/GLOSSARY.md").partition("\n## Types that cross crates\n")[2].partition("\n## ")[0]
+    rows = re.findall(r"^\| `(\w+)`(?:, `(\w+)`)? \| `(\w+)`(?:, `(\w+)`)? \|", text, re.M)
     if not rows:
         raise Failure("the table isn't there")
-    wrong = [f"{crate} is no crate" for _, crate in rows if crate not in code.crates]
-    known = [(name, code.crates[crate]) for name, crate in rows if crate in code.crates]
+    known = [(name, crate) for one, other, first, last in rows for name, crate in [(one, first), (other, last or first)] if name]
+    wrong = [f"{crate} is no crate" for _, crate in known if crate not in code.crates]
+    known = [(name, code.crates[crate]) for name, crate in known if crate in code.crates]
     fail_for(wrong + [f"{it.name} has no {name}" for name, it in known if name not in it.types and name not in it.definitions])
+
+
+def public_types_have_one_name_each(code):
+    """No two crates have a public type of one name."""
+    homes = {}
+    for it in code.crates.values():
+        for name in sorted({name for _, text in it.sources for name in PUBLIC_TYPE.findall(text)}):
+            homes.setdefault(name, []).append(it.name)
+    fail_for([f"{name} is a type of {' and of '.join(crates)}" for name, crates in sorted(homes.items()) if len(crates) > 1])
 
 
 def documents_of(root):
@@ -229,7 +241,8 @@ def tests(program, root):
     yield test("claims_of_readme_are_carried", claims_of_readme_are_carried, code)
     yield test("code_of_library_stands", code_of_library_stands, root)
     yield test("named_tests_are_there", named_tests_are_there, root, others)
-    yield test("types_of_one_name_are_there", types_of_one_name_are_there, code)
+    yield test("types_that_cross_crates_are_there", types_that_cross_crates_are_there, code)
+    yield test("public_types_have_one_name_each", public_types_have_one_name_each, code)
     yield test("central_edits_are_there", central_edits_are_there, root)
     yield test("picture_is_drawn", picture_is_drawn, root)
     yield test("map_has_each_crate", map_has_each_crate, code)

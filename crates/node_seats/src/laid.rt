@@ -7,7 +7,7 @@ ghost use Rattle.node_seats.specs.Replies.{AreHeld, IsHeld, is_late, later_of};
 
 use name_table::Names;
 use shared_table::{
-    Effect, NodeLoop, Publisher, Record, Stamped, TaskFault, TaskReply, Ticket, Token,
+    Booked, Effect, NodeLoop, Publisher, Record, TaskFault, TaskReply, Ticket, Token,
 };
 use std::alloc::Global;
 use std::marker::Model;
@@ -44,7 +44,7 @@ impl Model for Laid {
     ghost invariant = { λ l. IsLaid l.ticket l.outcome l.seen.log l.count l.length };
 }
 
-impl Stamped for Laid {
+impl Booked for Laid {
     ghost token = { λ l. l.seen };
 }
 

@@ -11,7 +11,7 @@ use std::marker::Model;
 use std::sync::{Arc, Wait};
 
 /// What is of the book of some node.
-pub trait Stamped: Drop {
+pub trait Booked: Drop {
     ghost use Rattle.shared_table.specs.Rule.{Token as AnyToken};
 
     ghost token: { Self → AnyToken };
@@ -20,7 +20,7 @@ pub trait Stamped: Drop {
 /// What lies in a chute is of the book that all know who use it.
 pub struct Same;
 
-impl<T: Stamped> Protocol<T, Mark> for Same {
+impl<T: Booked> Protocol<T, Mark> for Same {
     ghost use Rattle.std.specs.Prelude.{None};
     ghost use Rattle.shared_table.specs.Chutes.{Lies};
 
@@ -32,27 +32,27 @@ impl<T: Stamped> Protocol<T, Mark> for Same {
 /// Something is put.
 pub(crate) struct Puts;
 
-impl<T: Stamped> Outcome<T, Mark> for Puts {
+impl<T: Booked> Outcome<T, Mark> for Puts {
     ghost use Rattle.std.specs.Prelude.{◌≡◌};
     ghost use Rattle.shared_table.specs.Chutes.{Stays};
 
     ghost then = { λ v x w. Stays T.token v x w };
 }
 
-impl<T: Stamped> Lesson<T, Mark> for Puts {
+impl<T: Booked> Lesson<T, Mark> for Puts {
     ghost fact = { λ v items. Unit {0} };
 }
 
 /// Something is taken.
 pub(crate) struct Takes;
 
-impl<T: Stamped> Outcome<T, Mark> for Takes {
+impl<T: Booked> Outcome<T, Mark> for Takes {
     ghost use Rattle.shared_table.specs.Chutes.{Gives};
 
     ghost then = { λ v x w. Gives T.token v x w };
 }
 
-impl<T: Stamped> Lesson<T, Mark> for Takes {
+impl<T: Booked> Lesson<T, Mark> for Takes {
     ghost fact = { λ v items. Unit {0} };
 }
 
@@ -60,13 +60,13 @@ type Queue<T> = RuledArrayQueue<T, Mark, Same>;
 
 /// One thread's way to a queue. Contracts see the book that its items are of, and the moments of it that all know who use the queue.
 #[derive(Drop)]
-pub struct Chute<T: Stamped> {
+pub struct Chute<T: Booked> {
     queue: Arc<Queue<T>, Global>,
     pass: Pass<T, Mark>,
     origin: Token,
 }
 
-impl<T: Stamped> Model for Chute<T> {
+impl<T: Booked> Model for Chute<T> {
     ghost use Rattle.node_books.specs.Books.{Known};
     ghost use Rattle.shared_table.specs.Chutes.{IsChute};
 
@@ -77,7 +77,7 @@ impl<T: Stamped> Model for Chute<T> {
     ghost invariant = { λ c. IsChute c.queue.value c.pass c.origin };
 }
 
-impl<T: Stamped> Chute<T> {
+impl<T: Booked> Chute<T> {
     /// A queue with room for so many items, of the book of its first item, of which this much is known.
     pub fn open(alloc: Global, room: usize, item: T, origin: Token) -> Result<Self, AllocError>
         requires room { 0 < room }

@@ -1,7 +1,7 @@
 //! Readers that wait for a seat.
 ghost use Rattle.std.specs.Prelude.{◌≡◌};
 
-use crate::chute::{Chute, Stamped};
+use crate::chute::{Booked, Chute};
 use crate::rule::{Mark, OneBook};
 use crate::shown::Shown;
 use left_right::reader::Reader;
@@ -32,6 +32,6 @@ impl Model for Idle {
 /// The readers of a node's table that nobody has. They are lent, and go back where they are dropped.
 pub type IdleReaders = Chute<Idle>;
 
-impl Stamped for Idle {
+impl Booked for Idle {
     ghost token = { λ i. i };
 }

@@ -12,7 +12,7 @@ mod reader;
 mod rule;
 mod shown;
 
-pub use chute::{Chute, Stamped};
+pub use chute::{Booked, Chute};
 pub use idle::{Idle, IdleReaders};
 pub use kept::KeptPublisher;
 pub use node_books::{
