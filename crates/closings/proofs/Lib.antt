@@ -9,3 +9,7 @@ mod Fitting
 pub mod Growing
 pub mod Plainly
 pub mod Vouching
+mod Inserting
+mod Entering
+pub mod Gathering
+pub mod Playing

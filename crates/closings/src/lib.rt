@@ -1,12 +1,12 @@
 //! Ends of node threads that are consistent play to their end: where each node, played alone by its log and by the letters that the
-//! others' logs send it, does what its log says, the world does so, too, once all logs are merged by their stamps.
+//! others' logs send it, does what its log says, the world does so, too, once all logs are merged by their stamps. And they can be merged.
 //! Each law is the contract of a function with an empty body.
 #![tactic(auto)]
 
 ghost use Rattle.std.specs.Prelude.{ℕ};
 ghost use Rattle.protocol_model.specs.Letter.{Letter};
 ghost use Rattle.closings.specs.Guarded.{GuardedEndsAreConsistent, VouchedEndsAreConsistent};
-ghost use Rattle.closings.specs.Laws.{ConsistentEndsGoOn, ConsistentEndsPlay};
+ghost use Rattle.closings.specs.Laws.{ConsistentEndsGoOn, ConsistentEndsHaveARun, ConsistentEndsPlay, LogsMerge};
 
 /// Consistent ends, merged by stamp and then by node, are played by the world to their end, with the answers that they tell of, and
 /// its tables are then theirs.
@@ -35,4 +35,16 @@ pub fn guarded_ends_are_consistent<T: Relied>()
 /// put for it.
 pub fn vouched_ends_are_consistent<T: Relied>()
     ensures { VouchedEndsAreConsistent T.fits }
+{}
+
+/// Logs in which stamps rise, of which only nodes below some bound have entries, are merged into one run, which has as many steps as
+/// they have entries.
+pub fn logs_merge()
+    ensures { LogsMerge }
+{}
+
+/// Consistent ends have a run: their logs are merged into it, the world plays it to its end, with the answers that they tell of, and
+/// its tables are then theirs.
+pub fn consistent_ends_have_a_run()
+    ensures { ConsistentEndsHaveARun }
 {}

@@ -19,7 +19,7 @@ use Rattle.term.specs.NodeSets.{set_of, with_older, IsNodeSet}
 use Rattle.term.proofs.Older.{held}
 use Rattle.boss_order.proofs.Sets.{set_of-item}
 use Rattle.node_core.specs.declared.Letter.{Letter}
-use Rattle.node_core.specs.CoreState.{CoreState, AreOf, fresh}
+use Rattle.node_core.specs.CoreState.{CoreState, AreOf, fresh, opening_core}
 use Rattle.node_core.specs.Seen.{node_of}
 use Rattle.node_core.specs.Steps.{IsSaidBy}
 use Rattle.cluster_world.specs.Links.{AreFit}
@@ -30,7 +30,6 @@ use Rattle.world_history.specs.declared.entry.HistoryEntry.{HistoryEntry}
 use Rattle.world_history.specs.Histories.{entries_of}
 use Rattle.cluster_world.specs.Cores.{core_of}
 use Rattle.cluster_world.specs.Openings.{is_named_in, named_opening, creation_in, present_in}
-use Rattle.world_events.specs.Openings.{opening_core}
 use Rattle.cluster_world.specs.Seen.{names_of, or_else, core_at, node_with, named}
 use Rattle.cluster_world.proofs.Naming.{text_or_name, names_in-of, node_named, started_inside}
 use Rattle.cluster_world.proofs.Posting.{over}

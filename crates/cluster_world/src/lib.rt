@@ -12,12 +12,13 @@ mod start;
 mod turns;
 mod world;
 
+pub use node_core::NodeCore;
 pub use run_end::RunEnd;
 pub use seat::{WorldSeat, WorldSeatFault};
 pub use settle::Interrupted;
 pub use world::World;
 pub use world_events::{
-    Answer, Call, Letter, LocalEvent, Look, NameCall, NameList, NodeCore, Nodes, Notice,
-    NoticeList, Opening, Refusal, Reply, Retries, StartFault, StepFault, WorldEvent,
+    Answer, Call, Letter, LocalEvent, Look, NameCall, NameList, Nodes, Notice, NoticeList, Opening,
+    Refusal, Reply, Retries, StartFault, StepFault, WorldEvent,
 };
 pub use world_history::{HistoryEntry, KeptEntry};

@@ -10,10 +10,11 @@ ghost use Rattle.cluster_world.specs.Whole.{IsWhole};
 
 use crate::world::World;
 use name_table::Names;
+use node_core::NodeCore;
 use std::alloc::{AllocError, Global};
 use term::{Node, NodeSet};
 use thiserror::Error;
-use world_events::{Answer, LocalEvent, NodeCore, WorldEvent};
+use world_events::{Answer, LocalEvent, WorldEvent};
 
 /// Memory was refused for an event: what was played until then stands, and the world may be gone on with later.
 #[derive(Debug, Error, Drop)]

@@ -6,7 +6,8 @@ ghost use Rattle.getting_through.specs.NamedWorld.{opening_named};
 ghost use Rattle.getting_through.specs.WorldsOfNames.{of_names};
 ghost use Rattle.term.specs.Nodes.{IsFirst};
 ghost use Rattle.term.specs.NodeSets.{IsNodeSet};
-ghost use Rattle.world_events.specs.Openings.{opening_core, start_refused, start_fault_of};
+ghost use Rattle.world_events.specs.Openings.{start_refused, start_fault_of};
+ghost use Rattle.node_core.specs.CoreState.{opening_core};
 ghost use Rattle.cluster_world.specs.WorldState.{nodes_of};
 ghost use Rattle.cluster_world.specs.Seen.{names_of, opening_of, seen, named};
 ghost use Rattle.cluster_world.specs.Agreeing.{AgreesAfter};
@@ -16,10 +17,11 @@ ghost use Rattle.cluster_world.specs.Starting.{Opens};
 use crate::mail::Mail;
 use crate::world::World;
 use name_table::Names;
+use node_core::NodeCore;
 use past::Trace;
 use std::alloc::{AllocError, Global};
 use term::NodeName;
-use world_events::{NodeCore, Opening, StartFault, Turn};
+use world_events::{Opening, StartFault, Turn};
 use world_history::History;
 
 /// The core that each node opens with.
@@ -32,7 +34,7 @@ fn cores_of<N: Names<Memory = Global>>(
 {
     let mut cores = Vec::new(alloc);
     for node in opening.nodes().as_slice() {
-        cores.push(opening.core(alloc, node))?;
+        cores.push(NodeCore::open(alloc, opening, node))?;
     }
     Ok(cores)
 }

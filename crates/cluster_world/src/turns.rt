@@ -13,9 +13,10 @@ ghost use Rattle.cluster_world.specs.Mail.{links_of};
 use crate::history::enter_all;
 use crate::mail::Mail;
 use name_table::Names;
+use node_core::NodeCore;
 use std::alloc::Global;
 use term::Node;
-use world_events::{Answer, NodeCore, Turn};
+use world_events::{Answer, Turn};
 use world_history::History;
 
 /// Puts the letters of a step of the node at this place on their links, and its entries, where the node had the join `own` before the

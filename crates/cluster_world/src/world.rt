@@ -16,12 +16,13 @@ use crate::run_end::RunEnd;
 use crate::turns::take_in;
 use link::LinkPlace;
 use name_table::Names;
+use node_core::NodeCore;
 use past::Trace;
 use std::alloc::{AllocError, Global};
 use std::marker::Model;
 use std::mem;
 use term::{Node, NodeName, NodeSet};
-use world_events::{Answer, Cause, LocalEvent, NodeCore, Refusal, Turn, WorldEvent};
+use world_events::{Answer, Cause, LocalEvent, Refusal, Turn, WorldEvent};
 use world_history::{History, KeptEntry};
 
 /// A world: its nodes, the links between them, and the history. A name whose node has left may come back: then its next node starts.

@@ -13,6 +13,7 @@ use Rattle.lock_calls.specs.LockCallsState.{LockCallsState, none_at, seen}
 use Rattle.lock_calls.specs.declared.call.LockCall.{LockCall}
 use Rattle.protocol_model.specs.Node.{LockPhase}
 use Rattle.protocol_model.specs.Round.{asked}
+pub use Rattle.world_events.specs.Openings.{AreOf, bound_of}
 use Rattle.transaction.specs.Work.{Work, idle}
 use Rattle.transaction.specs.declared.op.Op.{Op}
 use Rattle.transaction.specs.declared.op.Op.TheVariants.{Join, Admission}
@@ -37,15 +38,6 @@ pub record CoreState : Type 0 where
 -- in how many spans a node keeps the serials of its dead
 abbrev pub spans_of : CoreState → ℕ
 spans_of h = distinct_count nat_eq (ends h.watch.watch.dead)
-
--- above all nodes that have one of these nodes' names
-abbrev pub bound_of : List ℕ → ℕ
-bound_of [] = 0
-bound_of (c ∷ cs) = max (name_of c + 2 ^ 32) (bound_of cs)
-
--- these nodes are of the world
-abbrev pub AreOf : List ℕ → List ℕ → Type 0
-AreOf world cs = (c : ℕ) → set_of cs c ≡ true → set_of world c ≡ true
 
 -- these nodes have started: each is of the world, or older than the one of its name that is
 abbrev pub HaveStarted : List ℕ → Nodes → Type 0
@@ -132,3 +124,7 @@ fresh_behind a world members left joined = record {
 -- a node at its beginning, which was told of nobody
 abbrev pub fresh : ℕ → List ℕ → List ℕ → Bool → CoreState
 fresh a world members joined = fresh_behind a world members [] joined
+
+-- the core that a node opens with: one of the cluster has its nodes as members, and a lone node itself
+abbrev pub opening_core : List ℕ → List ℕ → ℕ → CoreState
+opening_core nodes cluster a = if set_of cluster a then fresh a nodes cluster true else fresh a nodes (a ∷ []) false

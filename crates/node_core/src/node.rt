@@ -11,18 +11,18 @@ mod registrar;
 mod rounds;
 mod stepping;
 
-use crate::cause::Cause;
 use exchange::NoticeLists;
 use exit_watch::Watch;
 use lock_calls::LockCalls;
 use lock_table::LockTable;
 use locker::Round;
 use name_table::Names;
-use node_events::{Call, Letter, Reply, StepFault, Turn};
+use node_events::{Call, Cause, Letter, Reply, StepFault, Turn};
 use std::alloc::{AllocError, Global};
 use std::marker::Model;
 use term::{MOST_NODES, Node, NodeSet, Pid};
 use transaction::{Op, Registrar};
+use world_events::Opening;
 
 /// Where the current operation stands. Where there is none, this says nothing.
 #[derive(Drop)]
@@ -113,7 +113,7 @@ impl<N: Names<Memory = Global>> NodeCore<N> {
     ghost use Rattle.protocol_model.specs.Event.{can_retry, is_waiting};
     ghost use Rattle.node_core.specs.Joining.{join_number_of};
     ghost use Rattle.node_events.specs.Made.{HasRoom, IsNothing, nothing};
-    ghost use Rattle.node_core.specs.Causes.{event_by};
+    ghost use Rattle.node_events.specs.Causes.{event_by};
     ghost use Rattle.node_core.specs.Steps.{Makes};
     ghost use Rattle.protocol_model.specs.Registrar.{retry_global};
     ghost use Rattle.protocol_model.specs.Client.{retry_locks};
@@ -444,7 +444,7 @@ impl<N: Names<Memory = Global>> NodeCore<N> {
     ghost use Rattle.protocol_model.specs.Node.{opening_node};
     ghost use Rattle.term.specs.Nodes.{IsFirst};
     ghost use Rattle.term.specs.NodeSets.{set_of, with_older, succeeded};
-    ghost use Rattle.node_core.specs.CoreState.{AreOf, IsNext, HaveLeft, fresh, fresh_behind};
+    ghost use Rattle.node_core.specs.CoreState.{AreOf, IsNext, HaveLeft, fresh, fresh_behind, opening_core};
     ghost use Rattle.node_core.specs.Seen.{node_of};
 
     /// A node at its beginning, which was told of these departures: it has its members, and no names, processes and operations.
@@ -492,6 +492,21 @@ impl<N: Names<Memory = Global>> NodeCore<N> {
         ensures opening { joined ≡ true → node_of result ≡ opening_node (set_of members.now) node }
     {
         NodeCore::opened(alloc, node, world, members, &NodeSet::empty(), joined)
+    }
+
+    /// A node of a world that opens, at its beginning: one of the cluster has its nodes as members, and a lone node itself. It takes no
+    /// memory.
+    pub fn open(alloc: Global, opening: &Opening, node: &Node) -> Self
+        requires { set_of opening.now.nodes node.now ≡ true }
+        ensures opens { result ≡ opening_core opening.now.nodes opening.now.cluster node.now }
+        ensures name { result.name ≡ node.now }
+    {
+        let world = opening.nodes();
+        if opening.cluster().contains(node) {
+            NodeCore::new(alloc, node.copy(), world, opening.cluster(), true)
+        } else {
+            NodeCore::new(alloc, node.copy(), world, &NodeSet::one(node.copy()), false)
+        }
     }
 
     /// A node whose name has come back, at its beginning: it is lone, and was told of all that have left. It takes no memory.

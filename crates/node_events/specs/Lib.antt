@@ -1,3 +1,4 @@
+pub mod Causes
 pub mod Letters
 pub mod Made
 pub mod Seen

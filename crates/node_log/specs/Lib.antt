@@ -1,9 +1,4 @@
 pub use Rattle.world_events.specs.Events
-pub use Rattle.world_events.specs.NodeCoreCauses
-pub use Rattle.world_events.specs.NodeCoreState
-pub use Rattle.world_events.specs.NodeCoreMade
-pub use Rattle.world_events.specs.NodeCoreSeen
-pub use Rattle.world_events.specs.NodeCoreSteps
 pub use Rattle.world_events.specs.NodeEventsSeen
 pub use Rattle.world_events.specs.NodeEvents
 pub use Rattle.world_events.specs.NodeEventsLetters

@@ -15,6 +15,6 @@ pub use node_end::NodeEnd;
 pub use record::Record;
 pub use transcript::{SeatEntry, Transcript};
 pub use world_events::{
-    Answer, Call, Cause, Letter, LocalEvent, NameList, NodeCore, Nodes, Notice, NoticeList,
-    Opening, Reply, Retries, StartFault, StepFault, Turn, WorldEvent,
+    Answer, Call, Cause, Letter, LocalEvent, NameList, Nodes, Notice, NoticeList, Opening, Reply,
+    Retries, StartFault, StepFault, Turn, WorldEvent,
 };

@@ -1,6 +1,6 @@
 //! What a node's thread gives back.
 use crate::log::Log;
-use world_events::Names;
+use name_table::Names;
 
 /// What the thread of a node gives back when it ends.
 #[derive(Debug, Drop)]

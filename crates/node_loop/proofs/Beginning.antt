@@ -7,8 +7,8 @@ use Rattle.protocol_model.specs.Node.{Node, opening_node}
 use Rattle.protocol_model.specs.World.{Opening, in_world, in_cluster}
 use Rattle.closings.specs.Alone.{node_behind}
 use Rattle.closings.specs.Guarded.{Vouches}
-use Rattle.node_log.specs.NodeCoreState.{CoreState}
-use Rattle.node_log.specs.NodeCoreSeen.{node_of}
+use Rattle.node_core.specs.CoreState.{CoreState}
+use Rattle.node_core.specs.Seen.{node_of}
 use Rattle.node_log.specs.Seen.{seen_entry}
 use Rattle.tray.specs.Held.{none_for}
 use Rattle.node_loop.specs.Held.{Looping, Written}

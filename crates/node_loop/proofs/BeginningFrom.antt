@@ -4,8 +4,8 @@ use Rattle.std.specs.List.Sorted.{IsStrictlyIncreasing}
 use Rattle.registry_model.specs.Table.{Table}
 use Rattle.protocol_model.specs.Node.{Node}
 use Rattle.protocol_model.specs.World.{Opening}
-use Rattle.node_log.specs.NodeCoreState.{CoreState}
-use Rattle.node_log.specs.NodeCoreSeen.{node_of}
+use Rattle.node_core.specs.CoreState.{CoreState}
+use Rattle.node_core.specs.Seen.{node_of}
 use Rattle.node_log.specs.Seen.{seen_entry}
 use Rattle.tray.specs.Held.{none_for}
 use Rattle.node_loop.specs.Held.{Looping, Written}

@@ -1,7 +1,6 @@
 -- What holds of a loop that begins, and what each of its moves keeps, holds of the loop of a node.
 use Rattle.std.proofs.Common.{ℕ, zero, suc, sym, subst, inl, inr}
-use Rattle.node_log.specs.NodeCoreState.{CoreState}
-use Rattle.node_log.specs.Openings.{opening_core}
+use Rattle.node_core.specs.CoreState.{CoreState, opening_core}
 use Rattle.node_loop.specs.Held.{Looping, with_next}
 use Rattle.node_loop.specs.Coming.{begun, HandsOut, HandsOver, ComesBy, ComesFrom, IsLoopOf, IsLoopFrom}
 use Rattle.node_loop.proofs.Moving.{IsKept, turns}

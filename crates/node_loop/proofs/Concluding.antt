@@ -1,9 +1,9 @@
 -- What comes behind a step of the core makes the step of the loop.
 use Rattle.std.proofs.Common.{◌≡◌, ◌<◌, ◌^◌, ℕ, Bool, true, false, inl, inr, Option, Ok, Err, List, [], ◌∷◌, ◌++◌, refl, sym, ap, subst, ◌∙◌, MatchBool, append-nil, arith}
 use Rattle.node_log.specs.NodeEvents.{Event as NodeEvent}
-use Rattle.node_log.specs.NodeCoreState.{CoreState}
-use Rattle.node_log.specs.NodeCoreMade.{Made as Turn}
-use Rattle.node_log.specs.NodeCoreSteps.{Steps}
+use Rattle.node_core.specs.CoreState.{CoreState}
+use Rattle.node_core.specs.Made.{Made as Turn}
+use Rattle.node_core.specs.Steps.{Steps}
 use Rattle.node_log.specs.declared.WorldEvent.{WorldEvent}
 use Rattle.node_log.specs.Entries.{SeatedEntry}
 use Rattle.node_log.specs.Logs.{answered}

@@ -23,10 +23,10 @@ use Rattle.node_log.specs.declared.LocalEvent.TheVariants.{Call, Retry, Exit, Le
 use Rattle.node_log.specs.declared.Letter.{Letter}
 use Rattle.node_log.specs.NodeEventsLetters.{letter_of, send_of}
 use Rattle.node_log.specs.NodeEventsSeen.{answer_of, unnumbered}
-use Rattle.node_log.specs.NodeCoreState.{CoreState, bound_of}
-use Rattle.node_log.specs.NodeCoreMade.{Made as Turn}
-use Rattle.node_log.specs.NodeCoreSeen.{node_of, turn_by}
-use Rattle.node_log.specs.NodeCoreSteps.{Steps, IsSaidBy, IsHeardWithin, GoWithin}
+use Rattle.node_core.specs.CoreState.{CoreState, bound_of}
+use Rattle.node_core.specs.Made.{Made as Turn}
+use Rattle.node_core.specs.Seen.{node_of, turn_by}
+use Rattle.node_core.specs.Steps.{Steps, IsSaidBy, IsHeardWithin, GoWithin}
 use Rattle.node_log.specs.Events.{node_event, own_event_of, knows_contact}
 use Rattle.node_loop.specs.Returning.{IsNodeAmong}
 use Rattle.node_loop.proofs.Doing.{asks, own_turn}

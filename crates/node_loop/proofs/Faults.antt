@@ -5,8 +5,8 @@ use Rattle.node_log.specs.NodeEventsSeen.{fault_of, is_memory}
 use Rattle.protocol_model.specs.Event.{first_cause, cause, can_retry}
 use Rattle.protocol_model.specs.Event.{Refusal as AnyRefusal}
 use Rattle.node_log.specs.NodeEvents.TheVariants.{Retry}
-use Rattle.node_log.specs.NodeCoreSeen.{node_of}
-use Rattle.node_log.specs.NodeCoreSteps.{refusal_of}
+use Rattle.node_core.specs.Seen.{node_of}
+use Rattle.node_core.specs.Steps.{refusal_of}
 use Rattle.node_log.proofs.Faults.{only_memory}
 use Rattle.node_loop.specs.Held.{Looping, has_retry}
 

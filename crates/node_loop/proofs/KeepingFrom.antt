@@ -19,10 +19,10 @@ use Rattle.node_log.specs.declared.LocalEvent.TheVariants.{Call, Retry, Exit, Le
 use Rattle.node_log.specs.declared.WorldEvent.TheVariants.{At, Deliver}
 use Rattle.node_log.specs.Events.{event_of, node_event, knows_contact, is_leave as leaves_by}
 use Rattle.node_log.specs.NodeEventsSeen.{answer_of}
-use Rattle.node_log.specs.NodeCoreState.{CoreState}
-use Rattle.node_log.specs.NodeCoreMade.{Made as Turn}
-use Rattle.node_log.specs.NodeCoreSeen.{node_of}
-use Rattle.node_log.specs.NodeCoreSteps.{Steps, IsAsBefore, IsSaidBy}
+use Rattle.node_core.specs.CoreState.{CoreState}
+use Rattle.node_core.specs.Made.{Made as Turn}
+use Rattle.node_core.specs.Seen.{node_of}
+use Rattle.node_core.specs.Steps.{Steps, IsAsBefore, IsSaidBy}
 use Rattle.node_log.specs.Seen.{seen_entry}
 use Rattle.node_loop.specs.declared.item.Item.{Item}
 use Rattle.node_loop.specs.declared.item.Item.TheVariants as item

@@ -20,10 +20,10 @@ use Rattle.node_log.specs.declared.Answer.{Answer}
 use Rattle.node_log.specs.NodeEvents.TheVariants.{FromPeer}
 use Rattle.node_log.specs.declared.Letter.{Letter}
 use Rattle.node_log.specs.declared.Letter.TheVariants.{SetLock, LockAnswer, GiveBack, GivenBack, ReleaseOf, Apply, Applied, JoinAsk, JoinRefused, Admit, Welcome, Down}
-use Rattle.node_log.specs.NodeCoreState.{CoreState, bound_of}
-use Rattle.node_log.specs.NodeCoreMade.{Made as Turn}
-use Rattle.node_log.specs.NodeCoreSeen.{node_of}
-use Rattle.node_log.specs.NodeCoreSteps.{Steps, IsSaidBy}
+use Rattle.node_core.specs.CoreState.{CoreState, bound_of}
+use Rattle.node_core.specs.Made.{Made as Turn}
+use Rattle.node_core.specs.Seen.{node_of}
+use Rattle.node_core.specs.Steps.{Steps, IsSaidBy}
 use Rattle.node_log.specs.NodeEventsLetters.{letter_of}
 use Rattle.node_log.specs.Entries.{SeatedEntry}
 use Rattle.node_log.specs.Events.{node_event, own_event_of, knows_contact}

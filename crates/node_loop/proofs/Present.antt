@@ -3,7 +3,7 @@ use Rattle.std.proofs.Common.{ℕ, true, false, ◌≡◌, sym, ◌∙◌, arith
 use Rattle.std.proofs.lemmas.Bool.{false_from_ne_true}
 use Rattle.term.specs.NodeSets.{set_of, with_older}
 use Rattle.term.proofs.Older.{reached}
-use Rattle.node_log.specs.NodeCoreState.{CoreState, IsNext, IsWhole}
+use Rattle.node_core.specs.CoreState.{CoreState, IsNext, IsWhole}
 
 pub present_last : (h : CoreState) → IsWhole h → (n next : ℕ) → set_of h.world n ≡ true → IsNext n next → with_older h.world next ≡ false
 present_last h W n next here is = false_from_ne_true (with_older h.world next) (λ q.

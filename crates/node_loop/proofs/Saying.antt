@@ -8,7 +8,7 @@ use Rattle.term.proofs.Older.{held, first_alone}
 use Rattle.node_log.specs.declared.Letter.{Letter}
 use Rattle.node_log.specs.declared.Letter.TheVariants.{SetLock, LockAnswer, GiveBack, GivenBack, ReleaseOf, Apply, Applied, JoinAsk, JoinRefused, Admit, Welcome, Down}
 use Rattle.node_log.specs.NodeEventsLetters.{letter_of}
-use Rattle.node_log.specs.NodeCoreSteps.{IsSaidBy}
+use Rattle.node_core.specs.Steps.{IsSaidBy}
 use Rattle.node_loop.specs.Said.{IsSaid}
 
 -- of these nodes none has started but themselves

@@ -13,10 +13,10 @@ use Rattle.closings.specs.Guarded.{DoesIfFit}
 use Rattle.closings.proofs.Growing.{plays_longer, unread_behind_longer, plays_more, node_on, unread_on, sent_on, below_from, below_on, staying_on}
 use Rattle.term.specs.Nodes.{IsFirst}
 use Rattle.term.specs.NodeSets.{set_of}
-use Rattle.node_log.specs.NodeCoreState.{CoreState, bound_of}
-use Rattle.node_log.specs.NodeCoreMade.{Made as Turn}
-use Rattle.node_log.specs.NodeCoreSeen.{node_of}
-use Rattle.node_log.specs.NodeCoreSteps.{Steps, IsAsBefore}
+use Rattle.node_core.specs.CoreState.{CoreState, bound_of}
+use Rattle.node_core.specs.Made.{Made as Turn}
+use Rattle.node_core.specs.Seen.{node_of}
+use Rattle.node_core.specs.Steps.{Steps, IsAsBefore}
 use Rattle.node_log.specs.Entries.{SeatedEntry}
 use Rattle.node_log.specs.Events.{event_of}
 use Rattle.node_log.specs.Seen.{seen_entry}

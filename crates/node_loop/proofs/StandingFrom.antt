@@ -13,10 +13,10 @@ use Rattle.closings.proofs.Plainly.{plays_longer, unread_behind_longer, starts_o
 use Rattle.term.specs.NodeSets.{set_of, with_older}
 use Rattle.term.proofs.Older.{held}
 use Rattle.node_log.specs.NodeEventsLetters.{send_of}
-use Rattle.node_log.specs.NodeCoreState.{CoreState, bound_of}
-use Rattle.node_log.specs.NodeCoreMade.{Made as Turn}
-use Rattle.node_log.specs.NodeCoreSeen.{node_of}
-use Rattle.node_log.specs.NodeCoreSteps.{Steps, IsAsBefore}
+use Rattle.node_core.specs.CoreState.{CoreState, bound_of}
+use Rattle.node_core.specs.Made.{Made as Turn}
+use Rattle.node_core.specs.Seen.{node_of}
+use Rattle.node_core.specs.Steps.{Steps, IsAsBefore}
 use Rattle.node_log.specs.Events.{event_of}
 use Rattle.node_log.specs.Seen.{seen_entry}
 use Rattle.tray.specs.Held.{Waiting}

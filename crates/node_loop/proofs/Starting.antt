@@ -12,7 +12,7 @@ use Rattle.term.specs.Nodes.{name_of}
 use Rattle.term.specs.NodeSets.{set_of, with_older, succeeded}
 use Rattle.term.proofs.Older.{held, reached, reaching, succeeded_is, succeeded_keeps}
 use Rattle.term.proofs.Succeeded.{next_of, keeps_order}
-use Rattle.node_log.specs.NodeCoreState.{bound_of}
+use Rattle.node_core.specs.CoreState.{bound_of}
 use Rattle.tray.specs.Held.{Waiting, none_for, renewed}
 use Rattle.node_loop.specs.declared.item.Item.{Item}
 use Rattle.node_loop.specs.Held.{Looping, with_next}

@@ -3,7 +3,7 @@ use Rattle.std.specs.Prelude.{ℕ, ◌≡◌, Contains, map, Ok}
 use Rattle.protocol_model.specs.Event.{Answer as AnyAnswer}
 use Rattle.node_log.specs.Entries.{SeatedEntry}
 use Rattle.node_log.specs.NodeEventsSeen.{answer_of}
-use Rattle.node_log.specs.NodeCoreState.{CoreState}
+use Rattle.node_core.specs.CoreState.{CoreState}
 use Rattle.node_loop.specs.declared.item.Ticket.{Ticket}
 use Rattle.node_loop.specs.Told.{Told, Answered}
 use Rattle.node_loop.specs.Held.{Looping, Written}

@@ -1,7 +1,6 @@
 -- How the loop of a node comes to be as it is.
 use Rattle.std.specs.Prelude.{ℕ, false, zero, suc, ◌≡◌, ◌⊎◌, List, [], ◌∷◌, map}
-use Rattle.node_log.specs.NodeCoreState.{CoreState}
-use Rattle.node_log.specs.Openings.{opening_core}
+use Rattle.node_core.specs.CoreState.{CoreState, opening_core}
 use Rattle.tray.specs.Held.{Waiting, none_for}
 use Rattle.node_loop.specs.declared.item.Item.{Item}
 use Rattle.node_loop.specs.Told.{Told}

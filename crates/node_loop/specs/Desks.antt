@@ -5,7 +5,7 @@ use Rattle.protocol_model.specs.Event.{Answer as AnyAnswer}
 use Rattle.node_log.specs.declared.Answer.{Answer}
 use Rattle.node_log.specs.declared.StepFault.TheVariants.{NotLive}
 use Rattle.node_log.specs.NodeEventsSeen.{answer_of}
-use Rattle.node_log.specs.NodeCoreState.{CoreState}
+use Rattle.node_core.specs.CoreState.{CoreState}
 use Rattle.node_loop.specs.declared.item.Ticket.{Ticket}
 use Rattle.node_loop.specs.declared.replies.TaskFault.TheVariants.{NodeLeft, Step}
 use Rattle.node_loop.specs.declared.waiting.Caller.{Caller}

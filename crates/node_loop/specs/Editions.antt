@@ -7,9 +7,9 @@ use Rattle.node_log.specs.NodeEvents.{Event as NodeEvent}
 use Rattle.node_log.specs.NodeEvents.TheVariants as event
 use Rattle.node_log.specs.declared.Letter.{Letter}
 use Rattle.node_log.specs.declared.Letter.TheVariants.{Apply, JoinAsk, Admit, Welcome, Down}
-use Rattle.node_log.specs.NodeCoreState.{CoreState}
-use Rattle.node_log.specs.NodeCoreMade.{Made as Turn}
-use Rattle.node_log.specs.NodeCoreSteps.{Steps}
+use Rattle.node_core.specs.CoreState.{CoreState}
+use Rattle.node_core.specs.Made.{Made as Turn}
+use Rattle.node_core.specs.Steps.{Steps}
 use Rattle.node_loop.specs.declared.edit.Edit.{Edit}
 use Rattle.node_loop.specs.declared.edit.Edit.TheVariants.{Write, Departure, Whole, Leave}
 use Rattle.node_loop.specs.declared.edit.Update.{Update}

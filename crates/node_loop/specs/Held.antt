@@ -5,8 +5,8 @@ use Rattle.protocol_model.specs.Links.{is_nil}
 use Rattle.protocol_model.specs.Node.{holds_global}
 use Rattle.protocol_model.specs.Event.{can_retry}
 use Rattle.node_log.specs.declared.Letter.{Letter}
-use Rattle.node_log.specs.NodeCoreState.{CoreState}
-use Rattle.node_log.specs.NodeCoreSeen.{node_of}
+use Rattle.node_core.specs.CoreState.{CoreState}
+use Rattle.node_core.specs.Seen.{node_of}
 use Rattle.tray.specs.Held.{Waiting, with_letter, renewed}
 use Rattle.term.specs.NodeSets.{succeeded}
 use Rattle.node_log.specs.Entries.{SeatedEntry, Logged}

@@ -2,7 +2,7 @@
 use Rattle.std.specs.Prelude.{ℕ, Bool, true, false, ◌≡◌, ◌≤◌, ◌-◌, ◌⊎◌, Option, None, Ok, Err, MatchResult, List, [], ◌∷◌, ◌++◌, length, MatchBool}
 use Rattle.node_log.specs.declared.StepFault.{StepFault}
 use Rattle.node_log.specs.NodeEventsSeen.{fault_of, is_memory}
-use Rattle.node_log.specs.NodeCoreSteps.{refusal_of}
+use Rattle.node_core.specs.Steps.{refusal_of}
 use Rattle.node_log.specs.declared.LocalEvent.{LocalEvent}
 use Rattle.node_log.specs.declared.LocalEvent.TheVariants.{Retry, Leave}
 use Rattle.node_log.specs.Events.{node_event, is_leave, knows_contact}

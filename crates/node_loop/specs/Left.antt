@@ -4,7 +4,7 @@ use Rattle.std.specs.List.{list_any}
 use Rattle.node_log.specs.declared.WorldEvent.{WorldEvent}
 use Rattle.node_log.specs.declared.WorldEvent.TheVariants.{At, Deliver, Restart}
 use Rattle.node_log.specs.Events.{is_leave}
-use Rattle.node_log.specs.NodeCoreState.{CoreState}
+use Rattle.node_core.specs.CoreState.{CoreState}
 use Rattle.node_loop.specs.declared.item.Ticket.{Ticket}
 use Rattle.node_loop.specs.Told.{Told, Left}
 use Rattle.node_loop.specs.Held.{Looping, Written}

@@ -1,9 +1,9 @@
 pub use Rattle.node_log.specs.Events
 pub use Rattle.closings.specs.Alone
 pub use Rattle.closings.specs.Guarded
-pub use Rattle.node_log.specs.NodeCoreState
-pub use Rattle.node_log.specs.NodeCoreSeen
-pub use Rattle.node_log.specs.NodeCoreSteps
+pub use Rattle.node_core.specs.CoreState as NodeCoreState
+pub use Rattle.node_core.specs.Seen as NodeCoreSeen
+pub use Rattle.node_core.specs.Steps as NodeCoreSteps
 pub use Rattle.node_log.specs.NodeEventsSeen
 pub use Rattle.node_log.specs.Openings
 pub use Rattle.node_log.specs.Seen

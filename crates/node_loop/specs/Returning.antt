@@ -10,9 +10,9 @@ use Rattle.closings.specs.Alone.{Stamped, Made, Does, sent, unread_behind, Start
 use Rattle.closings.specs.Guarded.{Begins}
 use Rattle.term.specs.Nodes.{name_of}
 use Rattle.term.specs.NodeSets.{set_of, with_older}
-use Rattle.node_log.specs.NodeCoreState.{CoreState, bound_of, IsNext}
-use Rattle.node_log.specs.NodeCoreSeen.{node_of}
-use Rattle.node_log.specs.NodeCoreSteps.{IsSaidBy}
+use Rattle.node_core.specs.CoreState.{CoreState, bound_of, IsNext}
+use Rattle.node_core.specs.Seen.{node_of}
+use Rattle.node_core.specs.Steps.{IsSaidBy}
 use Rattle.node_log.specs.Seen.{seen_entry}
 use Rattle.node_loop.specs.declared.item.Item.{Item}
 use Rattle.node_loop.specs.declared.item.Item.TheVariants.{Letter, Task}

@@ -9,8 +9,8 @@ use Rattle.closings.specs.Guarded.{DoesIfFit, Vouches}
 use Rattle.registry_model.specs.Table.{Table}
 use Rattle.term.specs.Nodes.{IsFirst}
 use Rattle.term.specs.NodeSets.{set_of}
-use Rattle.node_log.specs.NodeCoreState.{CoreState, bound_of}
-use Rattle.node_log.specs.NodeCoreSeen.{node_of}
+use Rattle.node_core.specs.CoreState.{CoreState, bound_of}
+use Rattle.node_core.specs.Seen.{node_of}
 use Rattle.node_log.specs.Seen.{seen_entry}
 use Rattle.node_loop.specs.declared.item.Item.{Item}
 use Rattle.node_loop.specs.Said.{IsSaid}

@@ -5,9 +5,9 @@ use Rattle.node_log.specs.declared.Answer.{Answer}
 use Rattle.node_log.specs.NodeEvents.{Event as NodeEvent}
 use Rattle.node_log.specs.NodeEvents.TheVariants.{FromPeer}
 use Rattle.node_log.specs.NodeEventsSeen.{fault_of, is_memory}
-use Rattle.node_log.specs.NodeCoreState.{CoreState}
-use Rattle.node_log.specs.NodeCoreMade.{Made as Turn}
-use Rattle.node_log.specs.NodeCoreSteps.{Steps, IsAsBefore, refusal_of}
+use Rattle.node_core.specs.CoreState.{CoreState}
+use Rattle.node_core.specs.Made.{Made as Turn}
+use Rattle.node_core.specs.Steps.{Steps, IsAsBefore, refusal_of}
 use Rattle.node_log.specs.declared.LocalEvent.{LocalEvent}
 use Rattle.node_log.specs.declared.WorldEvent.{WorldEvent}
 use Rattle.node_log.specs.declared.WorldEvent.TheVariants.{At, Deliver}

@@ -6,8 +6,8 @@ use Rattle.node_log.specs.declared.Call.{Call as ClientCall}
 use Rattle.node_log.specs.declared.Call.TheVariants.{Spawn, Whereis, RegisteredNames, Notices, Register, ReRegister, Unregister, SetLock, DelLock, Join}
 use Rattle.node_log.specs.declared.LocalEvent.{LocalEvent}
 use Rattle.node_log.specs.declared.LocalEvent.TheVariants.{Call, Retry, Exit, Leave}
-use Rattle.node_log.specs.NodeCoreState.{CoreState}
-use Rattle.node_log.specs.NodeCoreSeen.{node_of}
+use Rattle.node_core.specs.CoreState.{CoreState}
+use Rattle.node_core.specs.Seen.{node_of}
 use Rattle.node_loop.specs.declared.item.Ticket.{Ticket}
 use Rattle.node_loop.specs.declared.waiting.Caller.{Caller}
 use Rattle.node_loop.specs.declared.waiting.Course.{Course}

@@ -9,7 +9,8 @@ use crate::replies::{Effect, Replies, TaskFault, TaskReply};
 use crate::tries::{TRIES, room_in_list};
 use crate::waiting::{Caller, Course, forget, forget_dropped, is_dropped, ticket_under, wait_for};
 use name_table::Names;
-use node_log::{Answer, NodeCore, Reply, StepFault};
+use node_core::NodeCore;
+use node_log::{Answer, Reply, StepFault};
 use std::alloc::{AllocError, Global};
 use std::marker::Model;
 

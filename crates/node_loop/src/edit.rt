@@ -7,7 +7,8 @@ ghost use Rattle.node_loop.specs.Editions.{NotedBy};
 ghost use Rattle.node_loop.specs.Owing.{with_note};
 
 use name_table::{Change, Names, Pair};
-use node_log::{Letter, NodeCore};
+use node_core::NodeCore;
+use node_log::Letter;
 use std::alloc::Global;
 use std::collections::LinkedList;
 use std::mem;

@@ -25,10 +25,10 @@ pub use item::{Item, Stamped, Task, Ticket};
 pub use laws::{
     starts_keep_sound, threads_are_consistent, told_answers_are_logged, told_leaves_are_logged,
 };
+pub use node_core::NodeCore;
 pub use node_log::{
-    Answer, Call, ForgottenLog, LocalEvent, Log, NameList, NodeCore, NodeEnd, Nodes, Notice,
-    NoticeList, Opening, Record, Reply, Retries, SeatEntry, StartFault, StepFault, Transcript,
-    WorldEvent,
+    Answer, Call, ForgottenLog, LocalEvent, Log, NameList, NodeEnd, Nodes, Notice, NoticeList,
+    Opening, Record, Reply, Retries, SeatEntry, StartFault, StepFault, Transcript, WorldEvent,
 };
 pub use node_loop::NodeLoop;
 pub use numbers::Numbers;

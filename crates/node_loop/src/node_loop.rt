@@ -1,7 +1,7 @@
 //! A node's loop.
 ghost use Rattle.std.specs.Prelude.{ℕ, ◌≡◌, ◌∷◌, [], true, false, length, map, IfOk, OnErr, MatchOption};
 ghost use Rattle.tray.specs.Held.{none_for};
-ghost use Rattle.node_log.specs.NodeCoreState.{spans_of, IsNext};
+ghost use Rattle.node_core.specs.CoreState.{spans_of, IsNext};
 ghost use Rattle.node_loop.specs.Told.{told_by};
 ghost use Rattle.node_loop.specs.Coming.{begun};
 ghost use Rattle.node_loop.specs.Desks.{empty_desk};
@@ -24,7 +24,8 @@ use crate::replies::TaskReply;
 use crate::ring::Ring;
 use link::{Inbox, Post};
 use name_table::Names;
-use node_log::{Log, NodeCore, NodeEnd, Record};
+use node_core::NodeCore;
+use node_log::{Log, NodeEnd, Record};
 use std::alloc::{AllocError, Global};
 use std::marker::Model;
 use std::mem;

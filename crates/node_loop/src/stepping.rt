@@ -1,8 +1,8 @@
 //! The steps of a node's loop.
 ghost use Rattle.std.specs.Prelude.{◌≡◌, ◌-◌, true, None, OnOk, OnErr, IfOk};
 ghost use Rattle.std.specs.Option.{option_map};
-ghost use Rattle.node_log.specs.NodeCoreCauses.{event_by};
-ghost use Rattle.node_log.specs.NodeCoreSteps.{Steps, IsAsBefore, refusal_of};
+ghost use Rattle.node_core.specs.Causes.{event_by};
+ghost use Rattle.node_core.specs.Steps.{Steps, IsAsBefore, refusal_of};
 ghost use Rattle.node_log.specs.Events.{knows_contact};
 ghost use Rattle.node_loop.specs.Held.{written, can_step, has_retry, is_due, has_leave, is_free_to_leave};
 ghost use Rattle.node_loop.specs.Steps.{Concludes, Tries};
@@ -17,7 +17,8 @@ use crate::replies::TaskFault;
 use crate::tries::TRIES;
 use crate::waiting::Course;
 use name_table::Names;
-use node_log::{Cause, LocalEvent, NodeCore, Record, StepFault, Turn, WorldEvent};
+use node_core::NodeCore;
+use node_log::{Cause, LocalEvent, Record, StepFault, Turn, WorldEvent};
 use std::alloc::{AllocError, Global};
 use term::Node;
 

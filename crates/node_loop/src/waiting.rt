@@ -5,7 +5,8 @@ ghost use Rattle.node_loop.specs.Waiting.{course_of, callers_of, ticket_under, i
 use crate::item::Ticket;
 use crate::tries::room_in_list;
 use name_table::Names;
-use node_log::{Call, LocalEvent, NodeCore};
+use node_core::NodeCore;
+use node_log::{Call, LocalEvent};
 use std::alloc::{AllocError, Global};
 use term::Pid;
 

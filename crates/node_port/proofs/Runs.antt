@@ -15,9 +15,8 @@ use Rattle.node_loop.specs.Answers.{LogsAnswer}
 use Rattle.node_loop.specs.Coming.{begun, IsLoopOf, IsLoopFrom}
 use Rattle.node_loop.specs.Editions.{opening}
 use Rattle.node_loop.specs.Held.{Looping, Written}
-use Rattle.node_loop.specs.NodeCoreState.{CoreState, fresh, fresh_behind}
+use Rattle.node_loop.specs.NodeCoreState.{CoreState, fresh, fresh_behind, opening_core}
 use Rattle.node_loop.specs.NodeCoreSeen.{node_of}
-use Rattle.node_loop.specs.Openings.{opening_core}
 use Rattle.node_loop.specs.Owing.{LeadsTo, Owes, shown_by}
 use Rattle.node_loop.proofs.Owing.{owes_next}
 use Rattle.wire_end.specs.declared.line.LinkLine.{LinkLine}

@@ -2,7 +2,7 @@
 use Rattle.std.proofs.Common.{ℕ, ◌≡◌, [], ap, sym, ◌∙◌, subst, refl}
 use Rattle.shared_table.specs.declared.Edition.{Edition}
 use Rattle.shared_table.specs.Coming.{begun, IsLoopOf}
-use Rattle.shared_table.specs.Openings.{opening_core}
+use Rattle.shared_table.specs.NodeCoreState.{opening_core}
 use Rattle.registry_model.specs.Process.{Text}
 use Rattle.shared_table.specs.declared.reader.Lookup.{Lookup}
 use Rattle.shared_table.specs.declared.reader.Lookup.TheVariants.{Owner, Left, Behind, Gone}

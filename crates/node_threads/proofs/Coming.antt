@@ -8,8 +8,7 @@ use Rattle.node_loop.specs.Turned.{Took, Missed, Turned}
 use Rattle.node_loop.proofs.Moving.{turn_of}
 use Rattle.node_loop.specs.Steps.{Outcome}
 use Rattle.node_loop.specs.Coming.{begun, IsLoopOf}
-use Rattle.node_loop.specs.NodeCoreState.{CoreState}
-use Rattle.node_loop.specs.Openings.{opening_core}
+use Rattle.node_loop.specs.NodeCoreState.{CoreState, opening_core}
 use Rattle.node_threads.specs.Stops.{CameTo}
 
 -- a turn more

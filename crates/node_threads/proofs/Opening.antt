@@ -18,9 +18,9 @@ use Rattle.term.specs.NodeSets.{set_of}
 use Rattle.term.specs.declared.limits.TheConstants.{MOST_NODES}
 use Rattle.term.proofs.Subsets.{set_of-append}
 use Rattle.node_loop.specs.declared.StartFault.TheVariants.{SameNode, TooManyNodes}
-use Rattle.node_loop.specs.NodeCoreState.{CoreState, bound_of, fresh}
+use Rattle.node_loop.specs.NodeCoreState.{CoreState, bound_of, fresh, opening_core}
 use Rattle.node_loop.specs.NodeCoreSeen.{node_of}
-use Rattle.node_loop.specs.Openings.{Opened, repeats, start_refused, opening_with, opening_core, IsOpening}
+use Rattle.node_loop.specs.Openings.{Opened, repeats, start_refused, opening_with, IsOpening}
 use Rattle.node_loop.specs.Sound.{IsNodeOf, opened}
 use Rattle.node_threads.specs.Wires.{Wired, name_of, Opens}
 use Rattle.node_threads.specs.Berths.{Berthed, wired_of, opened_of, IsOpened}

@@ -2,8 +2,7 @@
 use Rattle.std.proofs.Common.{ℕ, ◌≡◌, Bool, true, false, List, [], ◌∷◌, refl, inl, le_refl, ap, sym, subst, ◌∙◌}
 use Rattle.std.specs.Prelude.{if◌then◌else◌}
 use Rattle.term.specs.NodeSets.{set_of}
-use Rattle.node_loop.specs.NodeCoreState.{CoreState, fresh}
-use Rattle.node_loop.specs.Openings.{opening_core}
+use Rattle.node_loop.specs.NodeCoreState.{CoreState, fresh, opening_core}
 use Rattle.node_loop.specs.Coming.{begun}
 use Rattle.node_loop.specs.Editions.{opening}
 use Rattle.node_loop.specs.Owing.{shown_by, Owes}

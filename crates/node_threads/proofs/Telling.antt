@@ -10,9 +10,9 @@ use Rattle.protocol_model.specs.World.{Opening}
 use Rattle.term.specs.Nodes.{name_of}
 use Rattle.term.specs.NodeSets.{set_of}
 use Rattle.term.proofs.Older.{below_name}
-use Rattle.closing_runs.specs.Laws.{steps_below, HasARun}
-use Rattle.closing_runs.specs.Merging.{events_in}
-use Rattle.closing_runs.proofs.Playing.{consistent_ends_have_a_run}
+use Rattle.closings.specs.Laws.{steps_below, HasARun}
+use Rattle.closings.specs.Merging.{events_in}
+use Rattle.closings.proofs.Playing.{consistent_ends_have_a_run}
 use Rattle.replay.proofs.Theorem.{agreement}
 use Rattle.replay.proofs.ClientLocks.{client_locks}
 use Rattle.replay.proofs.Nothing.{nothing_is_left}

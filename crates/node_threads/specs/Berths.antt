@@ -1,6 +1,7 @@
 -- What contracts see of nodes whose threads are yet to start.
 use Rattle.std.specs.Prelude.{ℕ, ◌≡◌, ◌+◌, List, [], map}
-use Rattle.node_loop.specs.Openings.{Opened, opening_core}
+use Rattle.node_loop.specs.Openings.{Opened}
+use Rattle.node_loop.specs.NodeCoreState.{opening_core}
 use Rattle.node_loop.specs.declared.item.Item.{Item}
 use Rattle.node_seats.specs.Lines.{Sent}
 use Rattle.node_threads.specs.Wires.{Wired, name_of, line_to}

@@ -3,8 +3,8 @@ use Rattle.std.specs.Prelude.{ℕ, true, All, ◌≡◌, ◌+◌, ◌++◌, List
 use Rattle.std.specs.declared.alloc.Global.{Global}
 use Rattle.registry_model.specs.Table.{Table}
 use Rattle.protocol_model.specs.World.{Opening}
-use Rattle.closing_runs.specs.Merging.{Step, events_in, world_behind}
-use Rattle.closing_runs.specs.Laws.{HasARun}
+use Rattle.closings.specs.Merging.{Step, events_in, world_behind}
+use Rattle.closings.specs.Laws.{HasARun}
 use Rattle.node_loop.specs.Openings.{opening_with}
 use Rattle.replay.specs.Agreeing.{HeadlineAfter}
 use Rattle.replay.specs.Locks.{LocksAfter}

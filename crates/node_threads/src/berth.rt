@@ -11,7 +11,7 @@ use crate::running::{Running, Work};
 use crate::shared::Shared;
 use link::Mailbox;
 use name_table::Names;
-use node_loop::{Gate, Item, NodeLoop, Opening, Record};
+use node_loop::{Gate, Item, NodeCore, NodeLoop, Opening, Record};
 use node_seats::{
     Address, Caller, Host, IdleReaders, InboxLine, KeptPublisher, Opened, Parcel, Publisher,
     open_node,
@@ -104,7 +104,7 @@ where
         ensures opened { IfOk result (IsOpened opening.now) }
     {
         let gate = Arc::try_clone(&shared.gate)?;
-        let own = NodeLoop::new(alloc, opening.core(alloc, node), shared.stamp)?;
+        let own = NodeLoop::new(alloc, NodeCore::open(alloc, opening, node), shared.stamp)?;
         let (publisher, readers) = publish(rt, alloc, &own)?;
         let Opened {
             address,

@@ -14,9 +14,9 @@ use Rattle.protocol_model.specs.Node.{Node, opening_node}
 use Rattle.protocol_model.specs.Turn.{Turn}
 use Rattle.protocol_model.specs.World.{Opening, World, WorldEvent, in_world, in_cluster, other, happens, opening_world, run}
 use Rattle.closings.proofs.Plainly.{plays_longer}
-use Rattle.closing_runs.proofs.Playing.{consistent_ends_have_a_run}
-use Rattle.closing_runs.specs.Laws.{HasARun}
-use Rattle.closing_runs.specs.Merging.{Step, TakesAll, events_in, happening, steps_of}
+use Rattle.closings.proofs.Playing.{consistent_ends_have_a_run}
+use Rattle.closings.specs.Laws.{HasARun}
+use Rattle.closings.specs.Merging.{Step, TakesAll, events_in, happening, steps_of}
 use Rattle.creations.specs.NodeNames.{NamedOpening, opening_of}
 use Rattle.creations.specs.Restarts.{fresh_node}
 use Rattle.creations.specs.SomeStarted.{is_of_started, of_started, MayStart}

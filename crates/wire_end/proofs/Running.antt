@@ -3,8 +3,8 @@ use Rattle.std.proofs.Common.{ℕ, Bool, true, false, ◌≡◌, ◌⊎◌, ◌<
 use Rattle.std.specs.List.{AllByRecursion}
 use Rattle.std.proofs.lemmas.List.{map-append}
 use Rattle.protocol_model.specs.World.{Opening, in_world}
-use Rattle.closing_runs.proofs.Playing.{consistent_ends_have_a_run}
-use Rattle.closing_runs.specs.Merging.{events_in}
+use Rattle.closings.proofs.Playing.{consistent_ends_have_a_run}
+use Rattle.closings.specs.Merging.{events_in}
 use Rattle.lock_answers.proofs.ClientLocks.{client_locks}
 use Rattle.lock_answers.proofs.Nothing.{nothing_is_left}
 use Rattle.lock_answers.proofs.Theorem.{agreement}

@@ -10,8 +10,8 @@ use Rattle.protocol_model.specs.World.{Opening, WorldEvent, in_world, in_cluster
 use Rattle.creations.specs.NodeNames.{NamedOpening, opening_of, first_nodes}
 use Rattle.creations.specs.Restarts.{fresh_node}
 use Rattle.creations.specs.SomeStarted.{of_started}
-use Rattle.closing_runs.specs.Laws.{HasARun}
-use Rattle.closing_runs.specs.Merging.{events_in, world_behind}
+use Rattle.closings.specs.Laws.{HasARun}
+use Rattle.closings.specs.Merging.{events_in, world_behind}
 use Rattle.lock_answers.specs.Worlds.{Agrees}
 use Rattle.lock_answers.specs.ClientLocks.{ClientLocks}
 use Rattle.lock_answers.specs.Leftovers.{NothingIsLeft}

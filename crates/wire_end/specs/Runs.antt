@@ -3,8 +3,8 @@ use Rattle.std.specs.Prelude.{ℕ, true, ◌≡◌, ◌<◌, List, ◌++◌, map
 use Rattle.std.specs.List.{AllByRecursion}
 use Rattle.registry_model.specs.Table.{Table}
 use Rattle.protocol_model.specs.World.{Opening, in_world}
-use Rattle.closing_runs.specs.Laws.{HasARun}
-use Rattle.closing_runs.specs.Merging.{events_in, world_behind}
+use Rattle.closings.specs.Laws.{HasARun}
+use Rattle.closings.specs.Merging.{events_in, world_behind}
 use Rattle.lock_answers.specs.Worlds.{of_nodes, Agrees}
 use Rattle.lock_answers.specs.ClientLocks.{ClientLocks}
 use Rattle.lock_answers.specs.Leftovers.{NothingIsLeft}

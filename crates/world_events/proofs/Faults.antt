@@ -2,9 +2,9 @@
 use Rattle.std.proofs.Common.{false, ◌≡◌, Some, None, refl, ap, inl, inr}
 use Rattle.std.specs.Prelude.{◌⊎◌}
 use Rattle.protocol_model.specs.Event.{Refusal}
-use Rattle.node_core.specs.declared.StepFault.{StepFault}
-use Rattle.node_core.specs.declared.StepFault.TheVariants.{NotLive, Busy, Reserved, UnknownNode, AlreadyJoined, NoSuchProcess, AlreadyExited, SerialsSpent, NothingToRetry, HoldsLock, CallsSpent, Memory}
-use Rattle.node_core.specs.NodeEventsSeen.{fault_of, is_memory}
+use Rattle.node_events.specs.declared.events.StepFault.{StepFault}
+use Rattle.node_events.specs.declared.events.StepFault.TheVariants.{NotLive, Busy, Reserved, UnknownNode, AlreadyJoined, NoSuchProcess, AlreadyExited, SerialsSpent, NothingToRetry, HoldsLock, CallsSpent, Memory}
+use Rattle.node_events.specs.Seen.{fault_of, is_memory}
 
 -- a fault is want of memory, or it stands for a refusal
 by_memory : (fault : StepFault)

@@ -1,3 +1,2 @@
 pub mod Faults
-pub use Rattle.node_core.proofs.Stepping
 mod Openings

@@ -6,10 +6,10 @@ use Rattle.protocol_model.specs.World.{WorldEvent as AnyWorldEvent}
 use Rattle.protocol_model.specs.NamedEvents.{NamedEvent}
 use Rattle.term.specs.Nodes.{text_in}
 use Rattle.term.specs.NodeSets.{with_older}
-use Rattle.node_core.specs.declared.Call.TheVariants.{Join as JoinBy}
-use Rattle.node_core.specs.declared.Event.{Event as NodeEvent}
-use Rattle.node_core.specs.declared.Event.TheVariants as at_node
-use Rattle.node_core.specs.NodeEventsSeen.{call_of}
+use Rattle.node_events.specs.declared.events.Call.TheVariants.{Join as JoinBy}
+use Rattle.node_events.specs.declared.events.Event.{Event as NodeEvent}
+use Rattle.node_events.specs.declared.events.Event.TheVariants as at_node
+use Rattle.node_events.specs.Seen.{call_of}
 use Rattle.world_events.specs.declared.events.LocalEvent.{LocalEvent}
 use Rattle.world_events.specs.declared.events.LocalEvent.TheVariants.{Call, Retry, Exit, Leave}
 use Rattle.world_events.specs.declared.events.WorldEvent.{WorldEvent}

@@ -1,13 +1,21 @@
 -- Which worlds are started, and how they open.
-use Rattle.std.specs.Prelude.{ℕ, Bool, true, false, ◌||◌, ◌≡◌, nat_lt, Option, Some, None, List, [], ◌∷◌, ◌++◌, length, if◌then◌else◌}
+use Rattle.std.specs.Prelude.{ℕ, Bool, true, false, ◌||◌, ◌+◌, ◌^◌, ◌≡◌, max, nat_lt, Option, Some, None, List, [], ◌∷◌, ◌++◌, length, if◌then◌else◌}
 use Rattle.protocol_model.specs.World.{Opening as AnyOpening}
 use Rattle.term.specs.NodeSets.{set_of}
 use Rattle.term.specs.declared.limits.TheConstants.{MOST_NODES}
 use Rattle.std.specs.List.{All}
-use Rattle.term.specs.Nodes.{IsFirst}
-use Rattle.node_core.specs.CoreState.{CoreState, AreOf, bound_of, fresh}
+use Rattle.term.specs.Nodes.{IsFirst, name_of}
 use Rattle.world_events.specs.declared.opening.StartFault.{StartFault}
 use Rattle.world_events.specs.declared.opening.StartFault.TheVariants.{NoNode, SameNode, TooManyNodes, Memory}
+
+-- above all nodes that have one of these nodes' names
+abbrev pub bound_of : List ℕ → ℕ
+bound_of [] = 0
+bound_of (c ∷ cs) = max (name_of c + 2 ^ 32) (bound_of cs)
+
+-- these nodes are of the world
+abbrev pub AreOf : List ℕ → List ℕ → Type 0
+AreOf world cs = (c : ℕ) → set_of cs c ≡ true → set_of world c ≡ true
 
 -- the nodes of a world, and of them those that are joined at first; both are rising
 pub record Opened : Type 0 where
@@ -22,10 +30,6 @@ pub record IsOpened (o : Opened) : Type 0 where
 -- a world of these nodes, of which those of the cluster are joined
 abbrev pub opening_with : List ℕ → List ℕ → AnyOpening
 opening_with nodes cluster = record { bound = bound_of nodes; nodes = set_of nodes; cluster = set_of cluster }
-
--- the core that a node opens with: one of the cluster has its nodes as members, and a lone node itself
-abbrev pub opening_core : List ℕ → List ℕ → ℕ → CoreState
-opening_core nodes cluster a = if set_of cluster a then fresh a nodes cluster true else fresh a nodes (a ∷ []) false
 
 -- some node stands twice in the list
 abbrev pub repeats : List ℕ → Bool

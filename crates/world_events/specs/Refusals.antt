@@ -2,8 +2,8 @@
 use Rattle.std.specs.Prelude.{Bool, false, Option, Some, option_map}
 use Rattle.protocol_model.specs.Event.{Refusal as AnyRefusal}
 use Rattle.protocol_model.specs.NamedEvents.{NamedRefusal, Plain}
-use Rattle.node_core.specs.declared.StepFault.TheVariants as by_node
-use Rattle.node_core.specs.NodeEventsSeen.{fault_of, is_memory as node_memory}
+use Rattle.node_events.specs.declared.events.StepFault.TheVariants as by_node
+use Rattle.node_events.specs.Seen.{fault_of, is_memory as node_memory}
 use Rattle.world_events.specs.declared.refusal.Refusal.{Refusal}
 use Rattle.world_events.specs.declared.refusal.Refusal.TheVariants.{NoSuchNode, NodeLeft, EmptyLink, StillRunning, NotToldYet, CreationsSpent, Step}
 

@@ -1,9 +1,9 @@
 //! What may happen in a world.
 ghost use Rattle.std.specs.Prelude.{◌≡◌};
-ghost use Rattle.node_core.specs.Causes.{event_by};
+ghost use Rattle.node_events.specs.Causes.{event_by};
 ghost use Rattle.world_events.specs.Events.{node_event, is_leave, knows_contact};
 
-use node_core::{Call, Cause};
+use node_events::{Call, Cause};
 use term::{Node, NodeName, NodeSet, Pid};
 
 /// What may happen at a node, beside the delivery of a letter.

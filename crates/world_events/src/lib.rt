@@ -6,10 +6,9 @@ mod opening;
 mod refusal;
 
 pub use events::{LocalEvent, WorldEvent};
-pub use name_table::Names;
-pub use node_core::{
-    Answer, Call, Cause, Entry, Letter, Look, NameCall, NameList, NodeCore, Nodes, Notice,
-    NoticeList, Reply, Retries, StepFault, Turn,
+pub use node_events::{
+    Answer, Call, Cause, Entry, Letter, Look, NameList, Notice, NoticeList, Reply, StepFault, Turn,
 };
 pub use opening::{Opening, StartFault};
 pub use refusal::Refusal;
+pub use transaction::{NameCall, Nodes, Retries};

@@ -3,11 +3,9 @@ ghost use Rattle.std.specs.Prelude.{◌≡◌, ◌+◌, ◌≤◌, ◌++◌, ◌
 ghost use Rattle.std.specs.List.{All};
 ghost use Rattle.term.specs.Nodes.{IsFirst};
 ghost use Rattle.term.specs.NodeSets.{set_of};
-ghost use Rattle.world_events.specs.Openings.{IsOpened, opening_core, repeats, start_refused, start_fault_of, IsOpening};
+ghost use Rattle.world_events.specs.Openings.{IsOpened, repeats, start_refused, start_fault_of, IsOpening};
 
-use name_table::Names;
-use node_core::NodeCore;
-use std::alloc::{AllocError, Global};
+use std::alloc::AllocError;
 use std::marker::Model;
 use term::{MOST_NODES, Node, NodeName, NodeSet};
 use thiserror::Error;
@@ -135,20 +133,5 @@ impl Opening {
         ensures { result.now ≡ self.now.cluster }
     {
         &self.cluster
-    }
-
-    /// The core that one of its nodes opens with: one of the cluster has its nodes as members, and a lone node itself. It takes
-    /// no memory.
-    pub fn core<N: Names<Memory = Global>>(&self, alloc: Global, node: &Node) -> NodeCore<N>
-        requires { set_of self.now.nodes node.now ≡ true }
-        ensures opens { result ≡ opening_core self.now.nodes self.now.cluster node.now }
-        ensures name { result.name ≡ node.now }
-    {
-        if self.cluster.contains(node) {
-            NodeCore::new(alloc, node.copy(), &self.nodes, &self.cluster, true)
-        } else {
-            let alone = NodeSet::one(node.copy());
-            NodeCore::new(alloc, node.copy(), &self.nodes, &alone, false)
-        }
     }
 }

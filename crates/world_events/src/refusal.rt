@@ -3,7 +3,7 @@ ghost use Rattle.std.specs.Prelude.{◌≡◌};
 ghost use Rattle.world_events.specs.declared.refusal.Refusal.{Refusal};
 ghost use Rattle.world_events.specs.Refusals.{out_of_memory};
 
-use node_core::StepFault;
+use node_events::StepFault;
 use std::alloc::AllocError;
 use term::Node;
 use thiserror::Error;

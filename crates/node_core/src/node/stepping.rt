@@ -1,10 +1,9 @@
 //! The step of an event, for whoever keeps no history.
 ghost use Rattle.std.specs.Prelude.{◌≡◌, ◌++◌, OnErr, IfOk, IfErr};
 
-use crate::cause::Cause;
 use crate::node::NodeCore;
 use name_table::Names;
-use node_events::{Answer, Event, Letter, StepFault, Turn};
+use node_events::{Answer, Cause, Event, Letter, StepFault, Turn};
 use std::alloc::Global;
 use term::Node;
 

@@ -1,5 +1,5 @@
 use Rattle.std.proofs.Common.{◌≡◌, map, take}
-use Rattle.world_events.specs.Openings.{opening_core}
+use Rattle.node_core.specs.CoreState.{opening_core}
 use Rattle.cluster_world.proofs.start.cores_of.Given as goal
 
 abbrev pub invariant-loop-node : goal.invariant-loop-node

@@ -1,4 +1,4 @@
-use Rattle.node_log.proofs.Stepping.{steps_by_copy}
+use Rattle.node_core.proofs.Stepping.{steps_by_copy}
 use Rattle.node_loop.proofs.stepping.step.Goals as goal
 
 pub returns-in-Ok-clause-made : goal.returns-in-Ok-clause-made

@@ -1,5 +1,5 @@
 use Rattle.std.proofs.Common.{◌≡◌}
-use Rattle.node_log.specs.NodeCoreSteps.{IsAsBefore}
+use Rattle.node_core.specs.Steps.{IsAsBefore}
 use Rattle.node_loop.specs.Held.{written}
 use Rattle.node_loop.proofs.stepping.step.Given as goal
 

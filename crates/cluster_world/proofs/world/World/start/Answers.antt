@@ -3,7 +3,7 @@ use Rattle.std.specs.List.{All}
 use Rattle.term.specs.Nodes.{IsFirst}
 use Rattle.term.specs.NodeSets.{set_of}
 use Rattle.cluster_world.specs.NodeCoreState.{AreOf}
-use Rattle.world_events.specs.Openings.{opening_core}
+use Rattle.node_core.specs.CoreState.{opening_core}
 use Rattle.cluster_world.proofs.Agreeing.{agreed}
 use Rattle.cluster_world.proofs.Leftovers.{nothing_left}
 use Rattle.cluster_world.proofs.Locks.{locks_after}

@@ -1,5 +1,5 @@
 use Rattle.std.proofs.lemmas.Result.{err_from_is_err_and}
-use Rattle.node_core.specs.Causes.{event_by}
+use Rattle.node_events.specs.Causes.{event_by}
 use Rattle.node_core.proofs.Stepping.{steps_from}
 use Rattle.node_core.proofs.node.NodeCore.accept_in_place.Goals as goal
 

@@ -1,6 +1,6 @@
 use Rattle.std.proofs.Common.{ap, ◌∙◌}
 use Rattle.protocol_model.specs.Event.{Exiting}
-use Rattle.node_core.specs.Causes.{event_by}
+use Rattle.node_events.specs.Causes.{event_by}
 use Rattle.node_core.specs.Steps.{refusal_of}
 use Rattle.node_core.proofs.Refusals.{refuses, same_cause, never_memory}
 use Rattle.node_core.proofs.node.NodeCore.refusal.Goals as goal

@@ -1,4 +1,4 @@
-use Rattle.node_core.specs.Causes.{event_by}
+use Rattle.node_events.specs.Causes.{event_by}
 use Rattle.node_core.proofs.Stepping.{steps_by_copy}
 use Rattle.node_core.proofs.node.NodeCore.stepped.Goals as goal
 

@@ -1,5 +1,5 @@
 use Rattle.std.proofs.Common.{ap}
-use Rattle.node_core.specs.Causes.{event_by}
+use Rattle.node_events.specs.Causes.{event_by}
 use Rattle.node_core.proofs.Reading.{takes_letter, unchanged_by_letter}
 use Rattle.node_core.proofs.node.NodeCore.take.Goals as goal
 

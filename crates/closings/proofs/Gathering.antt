@@ -3,8 +3,8 @@ use Rattle.std.proofs.Common.{ℕ, zero, suc, ◌≡◌, ◌+◌, ◌<◌, ◌�
 use Rattle.std.proofs.lemmas.Bool.{cases_eq, cases_lt}
 use Rattle.closings.specs.Alone.{LogEntry}
 use Rattle.closings.specs.Merging.{Step, steps_of, IsInOrder}
-use Rattle.closing_runs.specs.Laws.{steps_below, AreMerged, LogsMerge}
-use Rattle.closing_runs.proofs.Entering.{enter, AreRising, enter_others, enter_own, enter_order, enter_count, rising}
+use Rattle.closings.specs.Laws.{steps_below, AreMerged, LogsMerge}
+use Rattle.closings.proofs.Entering.{enter, AreRising, enter_others, enter_own, enter_order, enter_count, rising}
 
 module _ (logs : ℕ → List LogEntry) where
   -- the steps of the nodes below n

@@ -2,7 +2,7 @@
 use Rattle.std.proofs.Common.{ℕ, zero, suc, ◌≡◌, ◌+◌, ◌<◌, List, [], ◌∷◌, length, refl, sym, ap, subst, ◌∙◌, arith}
 use Rattle.closings.specs.Alone.{LogEntry}
 use Rattle.closings.specs.Merging.{Step, steps_of, IsInOrder, Rises}
-use Rattle.closing_runs.proofs.Inserting.{insert, Leads, in_order, one_more, own_first, others_same, AreAbove, leads}
+use Rattle.closings.proofs.Inserting.{insert, Leads, in_order, one_more, own_first, others_same, AreAbove, leads}
 
 -- the step of node a with this entry
 abbrev pub step : ℕ → LogEntry → Step

@@ -1,8 +1,8 @@
 //! What a node takes a step for.
 ghost use Rattle.std.specs.Prelude.{◌≡◌};
-ghost use Rattle.node_core.specs.Causes.{event_by};
+ghost use Rattle.node_events.specs.Causes.{event_by};
 
-use node_events::{Call, Event, Letter};
+use crate::events::{Call, Event, Letter};
 use term::{Node, Pid};
 
 /// What a node takes a step for. What may take memory to copy is lent.

@@ -1,8 +1,8 @@
 -- What a node takes a step for, as the event that it is.
 use Rattle.node_events.specs.declared.events.Event.{Event}
 use Rattle.node_events.specs.declared.events.Event.TheVariants as of_event
-use Rattle.node_core.specs.declared.cause.Cause.{Cause}
-use Rattle.node_core.specs.declared.cause.Cause.TheVariants.{Call, FromPeer, Retry, Exit, Leave}
+use Rattle.node_events.specs.declared.cause.Cause.{Cause}
+use Rattle.node_events.specs.declared.cause.Cause.TheVariants.{Call, FromPeer, Retry, Exit, Leave}
 
 abbrev pub event_by : Cause → Event
 event_by (Call c) = of_event.Call c.now

@@ -6,10 +6,10 @@ use Rattle.protocol_model.specs.Node.{Node, opening_node}
 use Rattle.protocol_model.specs.World.{Opening, in_cluster}
 use Rattle.closings.specs.Alone.{Stamped, LogEntry, Made, sent, Does, unread_after, StartsAbove, Plays}
 use Rattle.closings.proofs.Merged.{consistent_ends_play}
-use Rattle.closing_runs.specs.Laws.{AreMerged, ConsistentEndsHaveARun}
-use Rattle.closing_runs.proofs.Inserting.{AreAbove}
-use Rattle.closing_runs.proofs.Entering.{AreRising, above_lesser}
-use Rattle.closing_runs.proofs.Gathering.{merge}
+use Rattle.closings.specs.Laws.{AreMerged, ConsistentEndsHaveARun}
+use Rattle.closings.proofs.Inserting.{AreAbove}
+use Rattle.closings.proofs.Entering.{AreRising, above_lesser}
+use Rattle.closings.proofs.Gathering.{merge}
 
 -- the entries of these steps
 abbrev entries : List Made → List LogEntry

@@ -1,4 +1,0 @@
-mod Inserting
-mod Entering
-pub mod Gathering
-pub mod Playing

@@ -1,2 +1,0 @@
-pub use Rattle.closings.specs.Merging
-pub mod Laws
