@@ -1,17 +1,16 @@
 -- What is printed, as bytes.
-use Rattle.std.specs.Prelude.{ℕ, Bool, true, false, codes, ◌==◌, flat_map, List, [], ◌∷◌, ◌++◌, if◌then◌else◌, Option, Some, None, option_map}
+use Rattle.std.specs.Prelude.{ℕ, Bool, true, false, codes, ◌==◌, flat_map, List, [], ◌∷◌, ◌++◌, if◌then◌else◌, Option, Some, None}
 use Rattle.std.specs.Fmt.{decimal}
 use Rattle.registry_model.specs.Process.{Process}
 use Rattle.registry_model.specs.Call.{Reply}
 use Rattle.registry_model.specs.Settlement.{Notice}
 use Rattle.registry_model.specs.Table.{Pair, Rule}
-use Rattle.protocol_model.specs.Event.{Answer, Refusal}
-use Rattle.protocol_model.specs.NamedEvents.{NamedRefusal, Plain, StillRunning, NotToldYet, CreationsSpent, NamedOutput, Said, Okay, Started, Error, Settled, SettleLimit, TableIs, MembersAre}
+use Rattle.protocol_model.specs.Event.{Answer}
+use Rattle.protocol_model.specs.NamedEvents.{NamedOutput, Said, Okay, Started, Error, Settled, SettleLimit, TableIs, MembersAre}
 use Rattle.term.specs.Spelling.{bytes_of, node_bytes, dot}
 use Rattle.term.specs.declared.faults.TextFault.TheVariants as text
-use Rattle.world_events.specs.declared.opening.StartFault.TheVariants as start
-use Rattle.world_events.specs.declared.StepFault.{StepFault}
-use Rattle.world_events.specs.NodeEventsSeen.{fault_of}
+pub use Rattle.world_events.specs.NodeEventsWords.{plain_word, refusal_word, word_for, step_word}
+pub use Rattle.world_events.specs.Words.{start_word}
 use Rattle.command_lines.specs.declared.faults.LineFault.{LineFault}
 use Rattle.command_lines.specs.declared.faults.LineFault.TheVariants.{BadLine, LineTooLong, NotAscii, Text, Start, Memory}
 
@@ -27,44 +26,8 @@ word_of (Text text.BadCreation) = codes "bad_creation"
 word_of (Text text.BadSerial) = codes "bad_serial"
 word_of (Text text.BadRule) = codes "bad_rule"
 word_of (Text text.TooManyNodes) = codes "too_many_nodes"
-word_of (Start start.NoNode) = codes "no_node"
-word_of (Start start.SameNode) = codes "same_node"
-word_of (Start start.TooManyNodes) = codes "too_many_nodes"
-word_of (Start start.Memory) = codes "memory"
+word_of (Start fault) = start_word fault
 word_of Memory = codes "memory"
-
--- the word for which the world or a node refuses an event that is no restart
-abbrev pub plain_word : Refusal → List ℕ
-plain_word Refusal.NoSuchNode = codes "no_such_node"
-plain_word Refusal.NodeLeft = codes "node_left"
-plain_word Refusal.EmptyLink = codes "empty_link"
-plain_word (Refusal.NotLive p) = codes "not_live"
-plain_word (Refusal.Busy p) = codes "busy"
-plain_word Refusal.Reserved = codes "reserved"
-plain_word Refusal.UnknownNode = codes "unknown_node"
-plain_word Refusal.AlreadyJoined = codes "already_joined"
-plain_word Refusal.NoSuchProcess = codes "no_such_process"
-plain_word Refusal.AlreadyExited = codes "already_exited"
-plain_word Refusal.SerialsSpent = codes "serials_spent"
-plain_word Refusal.NothingToRetry = codes "nothing_to_retry"
-plain_word Refusal.HoldsLock = codes "holds_lock"
-plain_word Refusal.CallsSpent = codes "calls_spent"
-
--- the word for which an event is refused; which node wasn't told yet isn't printed
-abbrev pub refusal_word : NamedRefusal → List ℕ
-refusal_word (Plain r) = plain_word r
-refusal_word StillRunning = codes "still_running"
-refusal_word (NotToldYet n) = codes "not_told_yet"
-refusal_word CreationsSpent = codes "creations_spent"
-
--- the same, where memory was refused if the protocol refuses nothing
-abbrev pub word_for : Option NamedRefusal → List ℕ
-word_for (Some r) = refusal_word r
-word_for None = codes "memory"
-
--- the word for which a node refuses an event
-abbrev pub step_word : StepFault → List ℕ
-step_word f = word_for (option_map Plain (fault_of f))
 
 -- a process: its node, a dot and its serial
 abbrev pub pid_text : Process → List ℕ

@@ -2,3 +2,4 @@ pub mod Causes
 pub mod Letters
 pub mod Made
 pub mod Seen
+pub mod Words

@@ -1,5 +1,5 @@
 //! What may happen at a node, what it says to other nodes, and what it answers.
-ghost use Rattle.std.specs.Prelude.{◌≡◌, true, IfOk, OnErr};
+ghost use Rattle.std.specs.Prelude.{◌≡◌, true, Some, IfOk, OnErr};
 
 use crate::name_list::NameList;
 use crate::notice_list::NoticeList;
@@ -7,6 +7,7 @@ use exchange::{Admission, Welcome};
 use exit_watch::WatchFault;
 use name_table::{Change, Pair, copied_pairs};
 use std::alloc::{AllocError, Global};
+use std::fmt;
 use term::{LockId, Name, Node, Pid};
 use thiserror::Error;
 use transaction::{NameCall, Nodes, Retries};
@@ -226,41 +227,63 @@ pub enum Entry {
 #[derive(Clone, Debug, PartialEq, Eq, Error, Drop)]
 pub enum StepFault {
     /// The holder of a lock call is no live process of this node.
-    #[error("not_live")]
     NotLive(Pid),
     /// The process has a lock call that isn't answered.
-    #[error("busy")]
     Busy(Pid),
     /// The resource `global` is the registry's own.
-    #[error("reserved")]
     Reserved,
     /// A named node is no member.
-    #[error("unknown_node")]
     UnknownNode,
     /// The node is joined, or has a join that isn't answered.
-    #[error("already_joined")]
     AlreadyJoined,
     /// The process is another node's, or its serial wasn't given.
-    #[error("no_such_process")]
     NoSuchProcess,
     /// The process is dead already.
-    #[error("already_exited")]
     AlreadyExited,
     /// The node has given its last serial, 4,294,967,295.
-    #[error("serials_spent")]
     SerialsSpent,
     /// No refused round waits.
-    #[error("nothing_to_retry")]
     NothingToRetry,
     /// The node holds the global lock.
-    #[error("holds_lock")]
     HoldsLock,
     /// The node has given its last number of a call, 4,294,967,295.
-    #[error("calls_spent")]
     CallsSpent,
     /// Memory was refused. The node is as before, as the protocol sees it, and the step may be taken again.
-    #[error("memory")]
     Memory,
+}
+
+impl StepFault {
+    ghost use Rattle.node_events.specs.Words.{step_word};
+
+    /// The word for it: lines tell of a refusal by it, and its own text is no other.
+    pub fn word(&self) -> &'static str
+        ensures { result.now ≡ step_word self.now }
+    {
+        match self {
+            StepFault::NotLive(_) => "not_live",
+            StepFault::Busy(_) => "busy",
+            StepFault::Reserved => "reserved",
+            StepFault::UnknownNode => "unknown_node",
+            StepFault::AlreadyJoined => "already_joined",
+            StepFault::NoSuchProcess => "no_such_process",
+            StepFault::AlreadyExited => "already_exited",
+            StepFault::SerialsSpent => "serials_spent",
+            StepFault::NothingToRetry => "nothing_to_retry",
+            StepFault::HoldsLock => "holds_lock",
+            StepFault::CallsSpent => "calls_spent",
+            StepFault::Memory => "memory",
+        }
+    }
+}
+
+impl fmt::Display for StepFault {
+    ghost use Rattle.node_events.specs.Words.{step_word};
+
+    ghost output = { λ f. Some (step_word f) };
+
+    fn fmt<W: fmt::Write>(&self, f: &mut fmt::Formatter<W>) -> fmt::Result {
+        f.write_str(self.word())
+    }
 }
 
 impl From<AllocError> for StepFault {

@@ -6,6 +6,7 @@ ghost use Rattle.term.specs.NodeSets.{set_of};
 ghost use Rattle.world_events.specs.Openings.{IsOpened, repeats, start_refused, start_fault_of, IsOpening};
 
 use std::alloc::AllocError;
+use std::fmt;
 use std::marker::Model;
 use term::{MOST_NODES, Node, NodeName, NodeSet};
 use thiserror::Error;
@@ -14,17 +15,39 @@ use thiserror::Error;
 #[derive(Clone, Copy, Debug, PartialEq, Eq, Error)]
 pub enum StartFault {
     /// The cluster has no node.
-    #[error("no_node")]
     NoNode,
     /// A node is named twice, among those of the cluster and the lone ones.
-    #[error("same_node")]
     SameNode,
     /// There are more nodes than a world may have, which is eight.
-    #[error("too_many_nodes")]
     TooManyNodes,
     /// Memory was refused.
-    #[error("memory")]
     Memory,
+}
+
+impl StartFault {
+    ghost use Rattle.world_events.specs.Words.{start_word};
+
+    /// The word for it: lines tell of a refusal by it, and its own text is no other.
+    pub fn word(&self) -> &'static str
+        ensures { result.now ≡ start_word self.now }
+    {
+        match self {
+            StartFault::NoNode => "no_node",
+            StartFault::SameNode => "same_node",
+            StartFault::TooManyNodes => "too_many_nodes",
+            StartFault::Memory => "memory",
+        }
+    }
+}
+
+impl fmt::Display for StartFault {
+    ghost use Rattle.world_events.specs.Words.{start_word};
+
+    ghost output = { λ f. Some (start_word f) };
+
+    fn fmt<W: fmt::Write>(&self, f: &mut fmt::Formatter<W>) -> fmt::Result {
+        f.write_str(self.word())
+    }
 }
 
 impl From<AllocError> for StartFault {
