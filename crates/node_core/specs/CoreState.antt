@@ -1,10 +1,11 @@
 -- What a node holds.
-use Rattle.std.specs.Prelude.{ℕ, Bool, nat_eq, true, false, ◌≡◌, ◌<◌, All, List, [], ◌∷◌, Option, Some, None, if◌then◌else◌}
+use Rattle.std.specs.Prelude.{ℕ, Bool, nat_eq, true, false, ◌+◌, ◌≡◌, ◌<◌, All, List, [], ◌∷◌, Option, Some, None, if◌then◌else◌}
 use Rattle.std.specs.Set.{distinct_count}
 use Rattle.registry_model.specs.Table.{Table}
 use Rattle.registry_model.specs.Settlement.{Notice}
 use Rattle.protocol_model.specs.LockTable.{Locks}
 use Rattle.registry_model.specs.Process.{Nodes}
+use Rattle.term.specs.Nodes.{name_of}
 use Rattle.term.specs.NodeSets.{set_of, with_older}
 use Rattle.exit_watch.specs.Spans.{ends}
 use Rattle.exit_watch.specs.WatchState.{WatchState, watch_from, AreSuspected}
