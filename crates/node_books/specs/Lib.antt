@@ -5,6 +5,7 @@ pub use Rattle.node_loop.specs.Events
 pub use Rattle.node_loop.specs.Held
 pub use Rattle.node_loop.specs.Left
 pub use Rattle.node_loop.specs.NodeEventsSeen
+pub use Rattle.node_loop.specs.NodeEventsWords
 pub use Rattle.node_loop.specs.NodeCoreState
 pub use Rattle.node_loop.specs.Owing
 pub use Rattle.node_loop.specs.Sound

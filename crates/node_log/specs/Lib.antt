@@ -1,5 +1,6 @@
 pub use Rattle.world_events.specs.Events
 pub use Rattle.world_events.specs.NodeEventsSeen
+pub use Rattle.world_events.specs.NodeEventsWords
 pub use Rattle.world_events.specs.NodeEvents
 pub use Rattle.world_events.specs.NodeEventsLetters
 pub use Rattle.world_events.specs.Openings

@@ -5,6 +5,7 @@ pub use Rattle.node_core.specs.CoreState as NodeCoreState
 pub use Rattle.node_core.specs.Seen as NodeCoreSeen
 pub use Rattle.node_core.specs.Steps as NodeCoreSteps
 pub use Rattle.node_log.specs.NodeEventsSeen
+pub use Rattle.node_log.specs.NodeEventsWords
 pub use Rattle.node_log.specs.Openings
 pub use Rattle.node_log.specs.Seen
 pub mod Told
@@ -24,3 +25,4 @@ pub mod Said
 pub mod Sound
 pub mod Telling
 pub mod Returning
+pub mod Words

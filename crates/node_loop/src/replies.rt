@@ -1,5 +1,5 @@
 //! What a node replies to those who asked.
-ghost use Rattle.std.specs.Prelude.{◌≡◌, [], ◌∷◌, ◌++◌, OnOk, OnErr, MatchOption};
+ghost use Rattle.std.specs.Prelude.{◌≡◌, [], ◌∷◌, ◌++◌, Some, OnOk, OnErr, MatchOption};
 ghost use Rattle.node_loop.specs.Told.{tell, outcome_of, told_by};
 
 use crate::item::Ticket;
@@ -7,6 +7,7 @@ use crate::tries::room_in_queue;
 use node_log::{Answer, StepFault};
 use std::alloc::{AllocError, Global};
 use std::collections::VecDeque;
+use std::fmt;
 use std::marker::Model;
 use thiserror::Error;
 
@@ -14,14 +15,36 @@ use thiserror::Error;
 #[derive(Debug, PartialEq, Eq, Error, Drop)]
 pub enum TaskFault {
     /// The contact of its join isn't of the world.
-    #[error("no_such_node")]
     NoSuchNode,
     /// The node has left.
-    #[error("node_left")]
     NodeLeft,
     /// The node's core refuses it; or, as `NotLive`, the process of a lock call died before the answer.
-    #[error("{0}")]
     Step(StepFault),
+}
+
+impl TaskFault {
+    ghost use Rattle.node_loop.specs.Words.{task_word};
+
+    /// The word for it: lines tell of a refusal by it, and its own text is no other.
+    pub fn word(&self) -> &'static str
+        ensures { result.now ≡ task_word self.now }
+    {
+        match self {
+            TaskFault::NoSuchNode => "no_such_node",
+            TaskFault::NodeLeft => "node_left",
+            TaskFault::Step(fault) => fault.word(),
+        }
+    }
+}
+
+impl fmt::Display for TaskFault {
+    ghost use Rattle.node_loop.specs.Words.{task_word};
+
+    ghost output = { λ f. Some (task_word f) };
+
+    fn fmt<W: fmt::Write>(&self, f: &mut fmt::Formatter<W>) -> fmt::Result {
+        f.write_str(self.word())
+    }
 }
 
 /// What came of a task that was accepted.

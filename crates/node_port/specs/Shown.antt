@@ -8,9 +8,9 @@ use Rattle.command_lines.specs.declared.faults.LineFault.{LineFault}
 use Rattle.command_lines.specs.declared.faults.LineFault.TheVariants as line
 use Rattle.letter_lines.specs.declared.faults.LetterFault.{LetterFault}
 use Rattle.letter_lines.specs.declared.faults.LetterFault.TheVariants as letter
-use Rattle.command_lines.specs.Printing.{ended, pid_text, reply_text, step_word, word_of}
+use Rattle.command_lines.specs.Printing.{ended, pid_text, reply_text, word_of}
 use Rattle.node_loop.specs.declared.replies.TaskFault.{TaskFault}
-use Rattle.node_loop.specs.declared.replies.TaskFault.TheVariants.{NoSuchNode, NodeLeft, Step}
+pub use Rattle.node_loop.specs.Words.{task_word}
 use Rattle.node_loop.specs.Told.{Came, Answered, Made, Left, Told}
 
 -- a line that goes out
@@ -30,12 +30,6 @@ pub data Shown : Type 0 where
   Untells : Shown  -- the node wasn't told that the one before has left
   Waits : Shown  -- something waits to be tried again
   Spends : Shown  -- no stamp is left for a step
-
--- the word for which a task is refused
-abbrev pub task_word : TaskFault → List ℕ
-task_word NoSuchNode = codes "no_such_node"
-task_word NodeLeft = codes "node_left"
-task_word (Step f) = step_word f
 
 -- what came of a task
 abbrev pub outcome_text : Result Came TaskFault → List ℕ

@@ -1,8 +1,9 @@
 -- Why a seat isn't made, or what it asks isn't done.
-use Rattle.std.specs.Prelude.{Bool, true, false, ◌≡◌, ◌⊎◌, Option, Some, None, Result, Ok, Err, List, [], ◌∷◌, ◌++◌}
+use Rattle.std.specs.Prelude.{ℕ, Bool, codes, true, false, ◌≡◌, ◌⊎◌, Option, Some, None, Result, Ok, Err, List, [], ◌∷◌, ◌++◌}
 use Rattle.shared_table.specs.declared.LocalEvent.{LocalEvent}
 use Rattle.shared_table.specs.declared.TaskFault.{TaskFault}
 use Rattle.shared_table.specs.declared.TaskFault.TheVariants as of_task
+use Rattle.shared_table.specs.NodeEventsWords.{step_word}
 use Rattle.node_seats.specs.declared.fault.SeatFault.{SeatFault}
 use Rattle.node_seats.specs.declared.fault.SeatFault.TheVariants.{NoSuchNode, NodeLeft, Closed, SeatsSpent, Step, Memory}
 
@@ -11,6 +12,15 @@ abbrev pub fault_by : TaskFault → SeatFault
 fault_by of_task.NoSuchNode = NoSuchNode
 fault_by of_task.NodeLeft = NodeLeft
 fault_by (of_task.Step fault) = Step fault
+
+-- the word for which a seat refuses what it is asked
+abbrev pub seat_word : SeatFault → List ℕ
+seat_word NoSuchNode = codes "no_such_node"
+seat_word NodeLeft = codes "node_left"
+seat_word Closed = codes "closed"
+seat_word SeatsSpent = codes "seats_spent"
+seat_word (Step f) = step_word f
+seat_word Memory = codes "memory"
 
 -- what a caller is told: a node has the nodes of its cluster, and calls none of them a stranger
 abbrev pub told_as : {A : Type 0} → Result A SeatFault → Result A SeatFault

@@ -8,6 +8,7 @@ pub use Rattle.node_books.specs.Events
 pub use Rattle.node_books.specs.Held
 pub use Rattle.node_books.specs.Left
 pub use Rattle.node_books.specs.NodeEventsSeen
+pub use Rattle.node_books.specs.NodeEventsWords
 pub use Rattle.node_books.specs.NodeCoreState
 pub use Rattle.node_books.specs.Owing
 pub use Rattle.node_books.specs.Sound
