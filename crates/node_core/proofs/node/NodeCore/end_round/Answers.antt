@@ -26,8 +26,8 @@ give_up-requires-clause-within g c =
     (ap (λ (h : CoreState). h.phase) (sym c.self.view_is) ∙ c.in-Asking.is) whole.phase)
     c.finish.ensures.value c.in-GiveBack.is
 
-pub returns-in-CoreState-clause-turn : goal.returns-in-CoreState-clause-turn
-returns-in-CoreState-clause-turn g c = λ round is.
+pub returns-in-Held-clause-turn : goal.returns-in-Held-clause-turn
+returns-in-Held-clause-turn g c = λ round is.
     let whole : IsWhole c.args.self.now = subst (λ (h : CoreState). IsWhole h) c.self.view_is c.self.invariant in
     on_ok_weaker c.held.result
     (λ w. ends_held c.args.self.now c.args.self.now c.args.turn.now c.in-Asking.round c.is_over.result refl
@@ -36,7 +36,7 @@ returns-in-CoreState-clause-turn g c = λ round is.
     (subst (λ (h : CoreState). (n : ℕ) → All (λ d. d < n) c.in-Asking.round.nodes → All (λ d. d < n) h.members
     → EndsAs c.finish.result (ending n (set_of h.members) (seen c.in-Asking.round))) c.self.view_is
     c.finish.ensures.protocol)
-    c.held.new.self c.held.new.turn c.asked-asked.result c.if-not-is_over.false c.in-CoreState.is
+    c.held.new.self c.held.new.turn c.asked-asked.result c.if-not-is_over.false c.in-Held.is
     c.asked-asked.ensures.protocol unnumbered w round is)
     c.held.ensures.turn
 
