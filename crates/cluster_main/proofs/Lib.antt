@@ -2,4 +2,3 @@ mod Answered
 mod CookieText
 mod Placed
 mod Refused
-mod Written

@@ -4,7 +4,6 @@
 mod answering;
 mod cookies;
 mod journal;
-mod lines;
 mod listening;
 mod playing;
 mod refusing;

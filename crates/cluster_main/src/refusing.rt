@@ -5,13 +5,12 @@ ghost use Rattle.clap.specs.Values.{kind_of};
 ghost use Rattle.text_lines.specs.Writing.{AppendsPart};
 ghost use Rattle.cluster_main.specs.Refusing.{IsRefused, refusal, status_for};
 
-use crate::lines::write_line;
 use arguments::ArgFault;
 use clap::Error;
 use clap::error::ErrorKind;
 use std::alloc::{AllocError, Global};
 use std::io::Write;
-use text_lines::write_text;
+use text_lines::{write_line, write_text};
 
 /// Shows help or the version, or tells of an error, and gives the status: also where that can't be told.
 fn show<W: Write, E: Write>(error: &Error, writer: &mut W, errors: &mut E) -> u8

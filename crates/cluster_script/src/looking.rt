@@ -7,14 +7,14 @@ ghost use Rattle.cluster_world.specs.NodeNames.{is_name};
 ghost use Rattle.cluster_world.specs.WorldState.{nodes_of};
 ghost use Rattle.cluster_world.specs.Seen.{names_of};
 ghost use Rattle.command_lines.specs.Grammar.{Scripted};
-ghost use Rattle.command_lines.specs.Printing.{error_line, refusal_word};
+ghost use Rattle.command_lines.specs.Printing.{refusal_word};
 ghost use Rattle.text_lines.specs.Writing.{Writes};
 ghost use Rattle.cluster_script.specs.Script.{made_of};
 ghost use Rattle.cluster_script.specs.Played.{PlaysAsked, IsShown, node_at, table_of, members_of, hidden_by, text_for, has_line};
 
 use crate::header::ScriptWorld;
 use crate::refusing::refuse_memory;
-use command_lines::{members_line, table_line};
+use command_lines::{Refusal, members_line, table_line, write_refusal};
 use name_table::Names;
 use std::alloc::{AllocError, Global};
 use std::io::Write;
@@ -72,13 +72,13 @@ fn line_of_members(
     Ok(Some(members_line(alloc, members.as_slice())?))
 }
 
-/// The line for a name whose node isn't shown.
-fn hidden_line(world: &ScriptWorld, name: &NodeName) -> &'static str
-    ensures { result.now ≡ error_line (refusal_word (hidden_by world.now name.now)) }
+/// The word for a name whose node isn't shown.
+fn hidden_word(world: &ScriptWorld, name: &NodeName) -> &'static str
+    ensures { result.now ≡ refusal_word (hidden_by world.now name.now) }
 {
     match node_at(world, name) {
-        Some(_) => "error node_left\n",
-        None => "error no_such_node\n",
+        Some(_) => Refusal::NodeLeft.word(),
+        None => Refusal::NoSuchNode.word(),
     }
 }
 
@@ -99,7 +99,7 @@ fn write_shown<W: Write>(
             Ok(true)
         }
         Ok(None) => {
-            write_text(writer, hidden_line(world, name).as_bytes())?;
+            write_refusal(writer, hidden_word(world, name))?;
             Ok(false)
         }
         Err(AllocError) => refuse_memory(writer),

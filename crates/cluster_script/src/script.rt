@@ -21,8 +21,8 @@ use crate::looking::{node_at, show_members, show_table};
 use crate::reading::next_line;
 use crate::refusing::refuse_memory;
 use command_lines::{
-    Answer, LineCommand, LineFault, LocalEvent, WorldEvent, answer_line, read_command,
-    refusal_line, started_line,
+    Answer, LineCommand, LineFault, LocalEvent, Refusal, WorldEvent, answer_line, read_command,
+    started_line, write_refusal,
 };
 use std::alloc::Global;
 use std::io::{BufReader, Read, Write};
@@ -95,7 +95,7 @@ fn play_event<W: Write>(
             Ok(true)
         }
         Err(refusal) => {
-            write_text(writer, refusal_line(&refusal).as_bytes())?;
+            write_refusal(writer, refusal.word())?;
             Ok(false)
         }
     }
@@ -113,7 +113,7 @@ fn play_at<W: Write>(
         (W.contents writer.old) (W.contents writer.new) result }
 {
     let Some(node) = node_at(world, name) else {
-        write_text(writer, b"error no_such_node\n")?;
+        write_refusal(writer, Refusal::NoSuchNode.word())?;
         return Ok(false);
     };
     let event = WorldEvent::At(node.copy(), event);
@@ -212,7 +212,7 @@ fn play_command<W: Write>(
     match command {
         Ok(command) => play_asked(alloc, writer, world, command),
         Err(fault) => {
-            write_text(writer, fault.line().as_bytes())?;
+            write_refusal(writer, fault.word())?;
             Ok(false)
         }
     }
@@ -314,7 +314,7 @@ pub fn run_script<R: Read, W: Write>(
         }
         Headers::Ended => Ok(true),
         Headers::Refused(fault) => {
-            write_text(writer, fault.line().as_bytes())?;
+            write_refusal(writer, fault.word())?;
             Ok(false)
         }
     }

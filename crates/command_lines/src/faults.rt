@@ -1,6 +1,6 @@
 //! Why a line is refused before it is played.
 ghost use Rattle.std.specs.Prelude.{◌≡◌};
-ghost use Rattle.command_lines.specs.Printing.{word_of, error_line};
+ghost use Rattle.command_lines.specs.Printing.{word_of};
 ghost use Rattle.command_lines.specs.declared.faults.LineFault.TheVariants.{Text, Memory};
 
 use std::alloc::AllocError;
@@ -41,25 +41,23 @@ impl From<TextFault> for LineFault {
 }
 
 impl LineFault {
-    /// The line that is printed for it.
-    pub fn line(&self) -> &'static str
-        ensures { result.now ≡ error_line (word_of self.now) }
+    /// The word for which the line is refused.
+    pub fn word(&self) -> &'static str
+        ensures { result.now ≡ word_of self.now }
     {
         match self {
-            LineFault::BadLine => "error bad_line\n",
-            LineFault::LineTooLong => "error line_too_long\n",
-            LineFault::NotAscii => "error not_ascii\n",
-            LineFault::Text(TextFault::Empty) => "error empty\n",
-            LineFault::Text(TextFault::TooLong) => "error too_long\n",
-            LineFault::Text(TextFault::BadByte(_)) => "error bad_byte\n",
-            LineFault::Text(TextFault::BadCreation) => "error bad_creation\n",
-            LineFault::Text(TextFault::BadSerial) => "error bad_serial\n",
-            LineFault::Text(TextFault::BadRule) => "error bad_rule\n",
-            LineFault::Text(TextFault::TooManyNodes) => "error too_many_nodes\n",
-            LineFault::Start(StartFault::NoNode) => "error no_node\n",
-            LineFault::Start(StartFault::SameNode) => "error same_node\n",
-            LineFault::Start(StartFault::TooManyNodes) => "error too_many_nodes\n",
-            LineFault::Start(StartFault::Memory) | LineFault::Memory => "error memory\n",
+            LineFault::BadLine => "bad_line",
+            LineFault::LineTooLong => "line_too_long",
+            LineFault::NotAscii => "not_ascii",
+            LineFault::Text(TextFault::Empty) => "empty",
+            LineFault::Text(TextFault::TooLong) => "too_long",
+            LineFault::Text(TextFault::BadByte(_)) => "bad_byte",
+            LineFault::Text(TextFault::BadCreation) => "bad_creation",
+            LineFault::Text(TextFault::BadSerial) => "bad_serial",
+            LineFault::Text(TextFault::BadRule) => "bad_rule",
+            LineFault::Text(TextFault::TooManyNodes) => "too_many_nodes",
+            LineFault::Start(fault) => fault.word(),
+            LineFault::Memory => "memory",
         }
     }
 }

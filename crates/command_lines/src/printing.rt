@@ -3,14 +3,13 @@ ghost use Rattle.std.specs.Prelude.{◌≡◌, ◌++◌, ◌∷◌, IfOk, OnOk, 
 ghost use Rattle.protocol_model.specs.NamedEvents.{Said, Started, TableIs, MembersAre};
 ghost use Rattle.world_events.specs.NodeEventsSeen.{answer_of as any_answer, reply_of as any_reply};
 ghost use Rattle.term.specs.Rules.{rule_of};
-ghost use Rattle.world_events.specs.Refusals.{refusal_of};
 ghost use Rattle.command_lines.specs.Printing as print;
 
 use name_table::Pair;
 use std::alloc::{AllocError, Global};
 use std::fmt::Write as _;
 use term::{Name, Node, Rule};
-use world_events::{Answer, Notice, Refusal, Reply, StepFault};
+use world_events::{Answer, Notice, Reply};
 
 /// Puts the text of names behind a text, in their order.
 fn push_names(text: &mut String, names: &[Name]) -> Result<(), AllocError>
@@ -128,39 +127,4 @@ pub fn started_line(alloc: Global, node: &Node) -> Result<String, AllocError>
     write!(line, "{node}")?;
     line.push('\n')?;
     Ok(line)
-}
-
-/// The line that is printed where a node refuses an event.
-pub fn step_line(fault: &StepFault) -> &'static str
-    ensures { result.now ≡ print.error_line (print.step_word fault.now) }
-{
-    match fault {
-        StepFault::NotLive(_) => "error not_live\n",
-        StepFault::Busy(_) => "error busy\n",
-        StepFault::Reserved => "error reserved\n",
-        StepFault::UnknownNode => "error unknown_node\n",
-        StepFault::AlreadyJoined => "error already_joined\n",
-        StepFault::NoSuchProcess => "error no_such_process\n",
-        StepFault::AlreadyExited => "error already_exited\n",
-        StepFault::SerialsSpent => "error serials_spent\n",
-        StepFault::NothingToRetry => "error nothing_to_retry\n",
-        StepFault::HoldsLock => "error holds_lock\n",
-        StepFault::CallsSpent => "error calls_spent\n",
-        StepFault::Memory => "error memory\n",
-    }
-}
-
-/// The line that is printed where a world refuses an event.
-pub fn refusal_line(refusal: &Refusal) -> &'static str
-    ensures { result.now ≡ print.error_line (print.word_for (refusal_of refusal.now)) }
-{
-    match refusal {
-        Refusal::NoSuchNode => "error no_such_node\n",
-        Refusal::NodeLeft => "error node_left\n",
-        Refusal::EmptyLink => "error empty_link\n",
-        Refusal::StillRunning => "error still_running\n",
-        Refusal::NotToldYet(_) => "error not_told_yet\n",
-        Refusal::CreationsSpent => "error creations_spent\n",
-        Refusal::Step(fault) => step_line(fault),
-    }
 }

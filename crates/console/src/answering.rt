@@ -20,7 +20,7 @@ use crate::links::Links;
 use crate::orders::{Awaited, Command, Inquiry, Order};
 use crate::outcomes::outcome_line;
 use crate::status::status_line;
-use command_lines::{Call, Reply, text_of};
+use command_lines::{Call, Reply, refusal_line, text_of};
 use descriptions::Description;
 use node_seats::SeatFault;
 use std::alloc::{AllocError, Global};
@@ -254,7 +254,7 @@ fn reply_to<H, A: Attendant<H>>(
         }
         Ok(Command::Quit) => Ok((String::from_str(alloc, "ok\n")?, Some(ConsoleEnd::Quit))),
         Ok(Command::Shutdown) => Ok((String::from_str(alloc, "ok\n")?, Some(ConsoleEnd::Shutdown))),
-        Err(fault) => Ok((String::from_str(alloc, fault.line())?, None)),
+        Err(fault) => Ok((refusal_line(alloc, fault.word())?, None)),
     }
 }
 

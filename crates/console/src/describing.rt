@@ -1,10 +1,9 @@
 //! What is told of processes that are described.
 ghost use Rattle.std.specs.Prelude.{◌≡◌, ◌++◌, IfOk, OnOk, Some, string_bytes};
-ghost use Rattle.command_lines.specs.Printing.{error_line};
 ghost use Rattle.console.specs.Describing.{behind_process, describe_text, describe_word, description_text, found_in as process_found_in, found_text, look_up_text};
 
-use crate::outcomes::{outcome_line, seat_line};
-use command_lines::Reply;
+use crate::outcomes::outcome_line;
+use command_lines::{Reply, refusal_line};
 use descriptions::Description;
 use node_seats::SeatFault;
 use std::alloc::{AllocError, Global};
@@ -21,13 +20,13 @@ pub enum DescribeFault {
 }
 
 impl DescribeFault {
-    /// The line that is printed for it.
-    fn line(&self) -> &'static str
-        ensures { result.now ≡ error_line (describe_word self.now) }
+    /// The word for it.
+    fn word(&self) -> &'static str
+        ensures { result.now ≡ describe_word self.now }
     {
         match self {
-            DescribeFault::Seat(fault) => seat_line(fault),
-            DescribeFault::TooMany => "error too_many_descriptions\n",
+            DescribeFault::Seat(fault) => fault.word(),
+            DescribeFault::TooMany => "too_many_descriptions",
         }
     }
 }
@@ -41,7 +40,7 @@ pub(crate) fn describe_line(
 {
     match outcome {
         Ok(()) => String::from_str(alloc, "ok\n"),
-        Err(fault) => String::from_str(alloc, fault.line()),
+        Err(fault) => refusal_line(alloc, fault.word()),
     }
 }
 

@@ -1,6 +1,5 @@
 //! Why the first line of a console is refused.
 ghost use Rattle.std.specs.Prelude.{◌≡◌};
-ghost use Rattle.command_lines.specs.Printing.{error_line};
 ghost use Rattle.console.specs.Faults.{greet_word};
 ghost use Rattle.console.specs.declared.faults.GreetFault.TheVariants.{Line};
 
@@ -41,16 +40,16 @@ impl From<LineFault> for GreetFault {
 }
 
 impl GreetFault {
-    /// The line that is printed for it.
-    pub(crate) fn line(&self) -> &'static str
-        ensures { result.now ≡ error_line (greet_word self.now) }
+    /// The word for it.
+    pub fn word(&self) -> &'static str
+        ensures { result.now ≡ greet_word self.now }
     {
         match self {
-            GreetFault::Line(fault) => fault.line(),
-            GreetFault::NotAllowed => "error not_allowed\n",
-            GreetFault::NotAttached => "error not_attached\n",
-            GreetFault::NoSuchNode => "error no_such_node\n",
-            GreetFault::TooManyConsoles => "error too_many_consoles\n",
+            GreetFault::Line(fault) => fault.word(),
+            GreetFault::NotAllowed => "not_allowed",
+            GreetFault::NotAttached => "not_attached",
+            GreetFault::NoSuchNode => "no_such_node",
+            GreetFault::TooManyConsoles => "too_many_consoles",
         }
     }
 }

@@ -2,8 +2,8 @@
 ghost use Rattle.std.specs.Prelude.{◌≡◌, IfOk, string_bytes};
 ghost use Rattle.console.specs.Fences.{fence_outcome, fence_text};
 
-use crate::outcomes::seat_line;
 use crate::status::Status;
+use command_lines::refusal_line;
 use node_seats::SeatFault;
 use std::alloc::{AllocError, Global};
 
@@ -26,6 +26,6 @@ pub(crate) fn fence_line(
 {
     match outcome {
         Ok(status) => number_line(alloc, status.fence),
-        Err(fault) => String::from_str(alloc, seat_line(&fault)),
+        Err(fault) => refusal_line(alloc, fault.word()),
     }
 }

@@ -10,15 +10,14 @@ ghost use Rattle.console.specs.Outcomes.{seat_word};
 
 use crate::cookie::Cookie;
 use crate::faults::GreetFault;
-use crate::outcomes::seat_line;
-use command_lines::text_of;
+use command_lines::{refusal_line, text_of, write_refusal};
 use node_seats::SeatFault;
 use std::alloc::{AllocError, Global};
 use std::io::{BufReader, Read, Write};
 use std::thread;
 use std::time::{Clock, Duration};
 use term::{MOST_LINES, Node, NodeName, NodeSet, parse_node_name};
-use text_lines::{Line, StreamFault, WriteFault, first_words, read_line, tell};
+use text_lines::{Line, StreamFault, WriteFault, first_words, hand_on, read_line, tell};
 
 /// For how many seconds who doesn't show the cookie waits for the answer.
 const DELAY: u64 = 1;
@@ -114,7 +113,7 @@ fn greeting_line(alloc: Global, answer: &Result<NodeName, GreetFault>) -> Result
 {
     match answer {
         Ok(_) => String::from_str(alloc, "ok\n"),
-        Err(fault) => String::from_str(alloc, fault.line()),
+        Err(fault) => refusal_line(alloc, fault.word()),
     }
 }
 
@@ -202,6 +201,7 @@ pub fn greet<R: Read, W: Write, C: Clock>(
 pub fn refuse_seat<W: Write>(writer: &mut W, fault: &SeatFault) -> Result<(), StreamFault>
     ensures { Writes (W.contents writer.old) (W.contents writer.new) result (error_line (seat_word fault.now)) }
 {
-    tell(writer, seat_line(fault).as_bytes())?;
+    write_refusal(writer, fault.word())?;
+    hand_on(writer)?;
     Ok(())
 }

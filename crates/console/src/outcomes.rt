@@ -1,26 +1,11 @@
 //! What an answer is printed as.
 ghost use Rattle.std.specs.Prelude.{◌≡◌, IfOk, string_bytes};
-ghost use Rattle.command_lines.specs.Printing.{error_line};
-ghost use Rattle.console.specs.Outcomes.{outcome_text, seat_word};
+ghost use Rattle.console.specs.Outcomes.{outcome_text};
 
-use command_lines::{Answer, Reply, answer_line, step_line};
+use command_lines::{Answer, Reply, answer_line, refusal_line};
 use node_seats::SeatFault;
 use std::alloc::{AllocError, Global};
 use term::Node;
-
-/// The line that is printed where a seat refuses what it is asked.
-pub(crate) fn seat_line(fault: &SeatFault) -> &'static str
-    ensures { result.now ≡ error_line (seat_word fault.now) }
-{
-    match fault {
-        SeatFault::NoSuchNode => "error no_such_node\n",
-        SeatFault::NodeLeft => "error node_left\n",
-        SeatFault::Closed => "error closed\n",
-        SeatFault::SeatsSpent => "error seats_spent\n",
-        SeatFault::Step(fault) => step_line(fault),
-        SeatFault::Memory => "error memory\n",
-    }
-}
 
 /// The line of a reply by this node, or of a refusal. A reply has no number here: who asks has one call at a time.
 pub(crate) fn outcome_line(
@@ -42,6 +27,6 @@ pub(crate) fn outcome_line(
                 },
             )
         }
-        Err(fault) => String::from_str(alloc, seat_line(&fault)),
+        Err(fault) => refusal_line(alloc, fault.word()),
     }
 }

@@ -4,7 +4,7 @@ ghost use Rattle.node_seats.specs.Callers.{IsEnd};
 ghost use Rattle.console.specs.declared.status.Load.{Load as AnyLoad};
 ghost use Rattle.console.specs.Statuses.{load_text, node_text, numbers_text, status_line as any_line, status_outcome, standing_word};
 
-use crate::outcomes::seat_line;
+use command_lines::refusal_line;
 use descriptions::SharedDescriptions;
 use lock_lines::LockLines;
 use node_seats::{ForgottenNotes, NodeStatus, Numbers, Seat, SeatFault};
@@ -114,6 +114,6 @@ pub(crate) fn status_line(
 {
     match outcome {
         Ok(status) => told_line(alloc, &status),
-        Err(fault) => String::from_str(alloc, seat_line(&fault)),
+        Err(fault) => refusal_line(alloc, fault.word()),
     }
 }

@@ -1,12 +1,12 @@
 //! The lines that go out, but for those of letters.
-ghost use Rattle.std.specs.Prelude.{◌≡◌, ◌++◌, ◌∷◌, codes, map, IfOk, OnOk, string_bytes};
+ghost use Rattle.std.specs.Prelude.{◌≡◌, ◌++◌, map, IfOk, OnOk, string_bytes};
 ghost use Rattle.command_lines.specs.NodeEventsSeen.{answer_of};
 ghost use Rattle.command_lines.specs.Printing.{ended, reply_text as any_reply_text};
 ghost use Rattle.node_loop.specs.Told.{outcome_of, told_by};
-ghost use Rattle.node_port.specs.Shown.{Clears, Stands, Tells, Counts, Refuses, Gaps, Strays, Misses, Untells, Waits, Spends, shown_line, shown_lines, standing_word as any_standing_word, task_word, outcome_text as any_outcome_text};
+ghost use Rattle.node_port.specs.Shown.{Clears, Stands, Tells, Counts, Refuses, Gaps, Strays, Misses, Untells, Waits, Spends, shown_line, shown_lines, standing_word as any_standing_word, outcome_text as any_outcome_text};
 ghost use Rattle.node_port.specs.Edits.{put_of, change_line, edit_lines};
 
-use command_lines::{Answer, LineFault, answer_line, step_line};
+use command_lines::{Answer, LineFault, Refusal, answer_line, refusal_line};
 use name_table::{Change, Pair};
 use node_loop::{Edit, Effect, TaskFault, TaskReply};
 use std::alloc::{AllocError, Global};
@@ -88,17 +88,6 @@ fn answer_text(alloc: Global, answer: Answer) -> Result<String, AllocError>
     )
 }
 
-/// The text of why a task is refused, with its end.
-fn fault_text(fault: &TaskFault) -> &'static str
-    ensures { result.now ≡ ended (codes "error " ++ task_word fault.now) }
-{
-    match fault {
-        TaskFault::NoSuchNode => "error no_such_node\n",
-        TaskFault::NodeLeft => "error node_left\n",
-        TaskFault::Step(fault) => step_line(fault),
-    }
-}
-
 /// The text of what came of a task, with its end.
 fn outcome_text(alloc: Global, outcome: Result<Effect, TaskFault>) -> Result<String, AllocError>
     ensures { IfOk result (λ text. string_bytes text ≡ ended (any_outcome_text (outcome_of outcome))) }
@@ -106,7 +95,7 @@ fn outcome_text(alloc: Global, outcome: Result<Effect, TaskFault>) -> Result<Str
     match outcome {
         Ok(Effect::Answered(_, answer)) => answer_text(alloc, answer),
         Ok(Effect::Made | Effect::Left) => String::from_str(alloc, "ok\n"),
-        Err(fault) => String::from_str(alloc, fault_text(&fault)),
+        Err(fault) => refusal_line(alloc, fault.word()),
     }
 }
 
@@ -139,8 +128,8 @@ pub(crate) fn push_refusal(
     ensures { OnOk result (string_bytes text.new ≡ string_bytes text.old ++ shown_line (Refuses tag fault.now)) }
 {
     match tag {
-        Some(tag) => write!(text, "{tag} {}", fault.line()),
-        None => text.push_str(fault.line()),
+        Some(tag) => writeln!(text, "{tag} error {}", fault.word()),
+        None => writeln!(text, "error {}", fault.word()),
     }
 }
 
@@ -169,7 +158,7 @@ pub(crate) fn push_untold(text: &mut String) -> Result<(), AllocError>
 pub(crate) fn push_no_such_node(text: &mut String) -> Result<(), AllocError>
     ensures { OnOk result (string_bytes text.new ≡ string_bytes text.old ++ shown_line Misses) }
 {
-    text.push_str("error no_such_node\n")
+    writeln!(text, "error {}", Refusal::NoSuchNode.word())
 }
 
 /// Puts behind a text that no stamp is left for a step.

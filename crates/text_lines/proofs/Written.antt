@@ -1,5 +1,5 @@
 -- Texts that are written in parts.
-use Rattle.std.proofs.Common.{ℕ, List, [], ◌++◌, ◌≡◌, ◌≤◌, ◌-◌, Option, refl, sym, ap, ◌∙◌, append-nil, append_assoc, Result, Ok, Err, length, take, drop, arith}
+use Rattle.std.proofs.Common.{ℕ, List, [], ◌∷◌, ◌++◌, ◌≡◌, ◌≤◌, ◌-◌, Option, refl, sym, ap, ◌∙◌, append-nil, append_assoc, Result, Ok, Err, length, take, drop, arith}
 use Rattle.std.specs.Io.KnownBytes.{Appends}
 use Rattle.std.proofs.KnownBytes.{Appends-trans, Appends-nil}
 use Rattle.std.proofs.lemmas.Grind.{common_steps}
@@ -51,3 +51,21 @@ pub Writes-behind : {A E : Type 0} (a b c : Option (List ℕ)) (r : Result A E) 
     → Writes b c r text → Writes a c r (front ++ text)
 Writes-behind a b c (Ok x) front text h w = Appends-trans a b c front text h w
 Writes-behind a b c (Err e) front text h w = AppendsPart-behind a b c front text h w
+
+-- a part of the first text is a part of the line
+pub part-first : (a b : Option (List ℕ)) (first second : List ℕ) → AppendsPart a b first
+    → AppendsPart a b ((first ++ second) ++ 10 ∷ [])
+part-first a b first second p =
+    AppendsPart-more a b (first ++ second) (10 ∷ []) (AppendsPart-more a b first second p)
+
+-- so is the first text with a part of the second
+pub part-second : (a b c : Option (List ℕ)) (first second : List ℕ) → Appends a b first → AppendsPart b c second
+    → AppendsPart a c ((first ++ second) ++ 10 ∷ [])
+part-second a b c first second h p =
+    AppendsPart-more a c (first ++ second) (10 ∷ []) (AppendsPart-behind a b c first second h p)
+
+-- both texts and the line's end are the line
+pub line-written : {A E : Type 0} (a b c d : Option (List ℕ)) (r : Result A E) (first second : List ℕ) → Appends a b first
+    → Appends b c second → Writes c d r (10 ∷ []) → Writes a d r ((first ++ second) ++ 10 ∷ [])
+line-written a b c d r first second h k w =
+    Writes-behind a c d r (first ++ second) (10 ∷ []) (Appends-trans a b c first second h k) w

@@ -9,4 +9,4 @@ mod writing;
 pub use faults::{StreamFault, WriteFault};
 pub use lines::{Line, is_blank, read_line};
 pub use words::{first_words, words_of};
-pub use writing::{hand_on, tell, write_text};
+pub use writing::{hand_on, tell, write_line, write_text};

@@ -1,5 +1,5 @@
 //! Texts that are written.
-ghost use Rattle.std.specs.Prelude.{◌≤◌, ◌≡◌, MatchResult, IfErr, length, take};
+ghost use Rattle.std.specs.Prelude.{◌≤◌, ◌≡◌, ◌++◌, ◌∷◌, [], MatchResult, IfErr, length, take};
 ghost use Rattle.std.specs.Io.KnownBytes.{Appends, Keeps};
 ghost use Rattle.text_lines.specs.Writing.{Writes};
 ghost use Rattle.text_lines.specs.declared.faults.WriteFault.TheVariants.{Writer};
@@ -38,6 +38,15 @@ pub fn write_text<W: Write>(writer: &mut W, text: &[u8]) -> Result<(), WriteFaul
         rest = &rest[count..];
     }
     Err(WriteFault::Writer)
+}
+
+/// Writes a line of two texts. After a fault a part of it was written.
+pub fn write_line<W: Write>(writer: &mut W, first: &str, second: &str) -> Result<(), WriteFault>
+    ensures { Writes (W.contents writer.old) (W.contents writer.new) result ((first.now ++ second.now) ++ 10 ∷ []) }
+{
+    write_text(writer, first.as_bytes())?;
+    write_text(writer, second.as_bytes())?;
+    write_text(writer, b"\n")
 }
 
 /// Hands on what was written.

@@ -9,8 +9,10 @@ use term::{Node, parse_node_name};
 fn prints(alloc: Global, refusal: &Refusal, line: &str) -> bool {
     let mut text = String::new(alloc);
     let written = write!(text, "error {refusal}\n");
-    let printed = refusal_line(refusal) == line;
-    written.is_ok() & printed & (text.as_str() == line)
+    let Ok(printed) = refusal_line(alloc, refusal.word()) else {
+        return false;
+    };
+    written.is_ok() & (printed.as_str() == line) & (text.as_str() == line)
 }
 
 #[test]

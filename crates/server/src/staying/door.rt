@@ -7,15 +7,17 @@ use crate::staying::notes::Note;
 use crate::staying::office::Office;
 use crate::staying::staff::Duty;
 use crate::staying::stream::Stream;
+use console::GreetFault;
 use crossbeam_channel::Sender;
 use libc::net::{POLLIN, poll};
 use libc::types::pollfd;
-use std::io::{ErrorKind, Read, Write};
+use std::io::{ErrorKind, Read};
 use std::net::Shutdown;
 use std::sync::{Arc, Wait};
 use std::thread;
 use std::time::{Clock, Duration, Instant};
 use term::NodeSet;
+use text_lines::write_line;
 
 /// How long it waits for a connection before it looks whether the server ends, in milliseconds.
 const WAIT: i32 = 100;
@@ -55,7 +57,7 @@ fn rest<R: Clock>(rt: &R) {
 /// Tells a client that there is no place for it, and ends its connection, whether it hears this or not. What it has sent is read before: with
 /// a connection that ends unread the system may take the answer back.
 fn turn_away(stream: Stream) {
-    let _ = (&stream).write_all(b"error too_many_consoles\n");
+    let _ = write_line(&mut &stream, "error ", GreetFault::TooManyConsoles.word());
     let _ = stream.shutdown(Shutdown::Write);
     let _ = stream.set_read_timeout(Some(Duration::from_millis(FAREWELL)));
     let mut unread = [0u8; 1024];

@@ -1,4 +1,4 @@
-use Rattle.std.proofs.Common.{ℕ, Bool, List, Result, ◌∙◌, subst, sym, refl, Ok}
+use Rattle.std.proofs.Common.{ℕ, Bool, List, Result, ap, ◌∙◌, subst, sym, refl, Ok}
 use Rattle.std.proofs.lemmas.Result.{err_from_is_err_and}
 use Rattle.std.specs.Io.KnownBytes.{Appends}
 use Rattle.std.proofs.KnownBytes.{Appends-trans}
@@ -11,7 +11,7 @@ use Rattle.cluster_script.specs.Played.{PlaysAsked, okay_text}
 use Rattle.command_lines.specs.NodeEventsSeen.{answer_of}
 use Rattle.command_lines.specs.declared.Answer.{Answer}
 use Rattle.command_lines.specs.Grammar.{Scripted}
-use Rattle.command_lines.specs.Printing.{answers_text}
+use Rattle.command_lines.specs.Printing.{answers_text, error_line}
 use Rattle.text_lines.specs.Writing.{AppendsPart}
 use Rattle.text_lines.proofs.Written.{AppendsPart-behind, AppendsPart-more}
 use Rattle.cluster_script.proofs.Writing.{PlaysAsked-err}
@@ -69,27 +69,27 @@ returns-in_ok-write_answers-in-Ok g c = (
       c.deref.ensures.value c.in_ok-write_answers-in-Ok.ensures)),
 )
 
-pub returns-in_err-write_text-in-Err : goal.returns-in_err-write_text-in-Err
-returns-in_err-write_text-in-Err g c =
+pub returns-in_err-write_refusal-in-Err : goal.returns-in_err-write_refusal-in-Err
+returns-in_err-write_refusal-in-Err g c =
     let old = c.args.world.now in
     let new = c.play.new.self in
     let a = g.W.Write.contents c.args.writer.now in
-    let b = g.W.Write.contents c.write_text.new.writer in
-    let p = err_from_is_err_and c.from_residual-in_err-write_text-in-Err.result
-    c.from_residual-in_err-write_text-in-Err.ensures.1 in
+    let b = g.W.Write.contents c.write_refusal.new.writer in
+    let p = err_from_is_err_and c.from_residual-in_err-write_refusal-in-Err.result
+    c.from_residual-in_err-write_refusal-in-Err.ensures.1 in
     subst (λ (r : Result Bool WriteFault). PlaysAsked (Ok (Scripted (Play (named_event c.args.event.now)))) old new a b r) (sym p.1)
     (event-unwritten old new (named_event c.args.event.now) c.play.ensures.kept.names
     c.in-Err.ensures.as_before (refusal_of c.in-Err.refusal) c.in-Err.ensures.refused a b
-    (subst (λ (t : List ℕ). AppendsPart a b t) (c.as_bytes.ensures.value ∙ c.refusal_line.ensures)
-    c.in_err-write_text-in-Err.ensures) p.0)
+    (subst (λ (t : List ℕ). AppendsPart a b t) (ap error_line c.word.ensures)
+    c.in_err-write_refusal-in-Err.ensures) p.0)
 
-pub returns-in_ok-write_text-in-Err : goal.returns-in_ok-write_text-in-Err
-returns-in_ok-write_text-in-Err g c =
+pub returns-in_ok-write_refusal-in-Err : goal.returns-in_ok-write_refusal-in-Err
+returns-in_ok-write_refusal-in-Err g c =
     let old = c.args.world.now in
     let new = c.play.new.self in
     let a = g.W.Write.contents c.args.writer.now in
-    let b = g.W.Write.contents c.write_text.new.writer in
+    let b = g.W.Write.contents c.write_refusal.new.writer in
     event-refused old new (named_event c.args.event.now) c.play.ensures.kept.names
     c.in-Err.ensures.as_before (refusal_of c.in-Err.refusal) c.in-Err.ensures.refused a b
-    (subst (λ (t : List ℕ). Appends a b t) (c.as_bytes.ensures.value ∙ c.refusal_line.ensures)
-    c.in_ok-write_text-in-Err.ensures)
+    (subst (λ (t : List ℕ). Appends a b t) (ap error_line c.word.ensures)
+    c.in_ok-write_refusal-in-Err.ensures)

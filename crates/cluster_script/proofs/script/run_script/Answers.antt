@@ -1,4 +1,4 @@
-use Rattle.std.proofs.Common.{ℕ, List, ◌∙◌, subst, sym, refl, arith}
+use Rattle.std.proofs.Common.{ℕ, List, ap, subst, sym, refl, arith}
 use Rattle.std.specs.Io.KnownBytes.{Appends}
 use Rattle.std.specs.Io.Buffered.{reader_remaining}
 use Rattle.std.proofs.lemmas.Result.{err_from_is_err_and}
@@ -6,6 +6,7 @@ use Rattle.term.specs.declared.limits.TheConstants.{MOST_LINES}
 use Rattle.text_lines.specs.declared.faults.StreamFault.{StreamFault}
 use Rattle.text_lines.specs.Lines.{spoken}
 use Rattle.text_lines.specs.Writing.{AppendsPart}
+use Rattle.command_lines.specs.Printing.{error_line}
 use Rattle.cluster_script.specs.declared.header.Headers.{Headers}
 use Rattle.cluster_script.specs.Headers.{ReadsHeaders}
 use Rattle.cluster_script.specs.Script.{Stopped}
@@ -24,23 +25,23 @@ returns-in_err-world g c =
     (Stopped-opening input rest old same c.in_err-world.ensures.kept c.in_err-world.field-0.0
     c.in_err-world.ensures.read))
 
-pub returns-in_err-write_text-in-Refused : goal.returns-in_err-write_text-in-Refused
-returns-in_err-write_text-in-Refused g c =
+pub returns-in_err-write_refusal-in-Refused : goal.returns-in_err-write_refusal-in-Refused
+returns-in_err-write_refusal-in-Refused g c =
     let input = reader_remaining g.R.Read.remaining c.args.reader.now in
     let rest = reader_remaining g.R.Read.remaining c.read_headers.new.reader in
     let old = g.W.Write.contents c.args.writer.now in
     let same = g.W.Write.contents c.read_headers.new.writer in
-    let new = g.W.Write.contents c.write_text.new.writer in
-    let p = err_from_is_err_and c.from_residual-in_err-write_text-in-Refused.result
-    c.from_residual-in_err-write_text-in-Refused.ensures.1 in
+    let new = g.W.Write.contents c.write_refusal.new.writer in
+    let p = err_from_is_err_and c.from_residual-in_err-write_refusal-in-Refused.result
+    c.from_residual-in_err-write_refusal-in-Refused.ensures.1 in
     let t = subst (λ (h : Headers). ReadsHeaders input rest MOST_LINES c.read_headers.new.left h) c.in-Refused.is
     c.in_ok-world.ensures.read in
-    Stopped-err input rest old new c.from_residual-in_err-write_text-in-Refused.result p.0 p.1
-    (Stopped-writing input rest old new c.in_err-write_text-in-Refused.field-0.0 p.0 p.2
+    Stopped-err input rest old new c.from_residual-in_err-write_refusal-in-Refused.result p.0 p.1
+    (Stopped-writing input rest old new c.in_err-write_refusal-in-Refused.field-0.0 p.0 p.2
     (Stopped-refused input rest MOST_LINES c.read_headers.new.left (omega arith) old new t.0 t.1 t.2 c.in-Refused.fault t.3
     (AppendsPart-kept old same new _ c.in_ok-world.ensures.kept
-    (subst (λ (x : List ℕ). AppendsPart same new x) (c.as_bytes.ensures.value ∙ c.line.ensures)
-    c.in_err-write_text-in-Refused.ensures))) refl)
+    (subst (λ (x : List ℕ). AppendsPart same new x) (ap error_line c.word.ensures)
+    c.in_err-write_refusal-in-Refused.ensures))) refl)
 
 pub returns-in-Open : goal.returns-in-Open
 returns-in-Open g c =
@@ -69,16 +70,16 @@ returns-in-Ended g c =
     Ran-ended input rest MOST_LINES c.read_headers.new.left (omega arith) old same t.0 t.1 t.2 t.3
     c.in_ok-world.ensures.kept
 
-pub returns-in_ok-write_text-in-Refused : goal.returns-in_ok-write_text-in-Refused
-returns-in_ok-write_text-in-Refused g c =
+pub returns-in_ok-write_refusal-in-Refused : goal.returns-in_ok-write_refusal-in-Refused
+returns-in_ok-write_refusal-in-Refused g c =
     let input = reader_remaining g.R.Read.remaining c.args.reader.now in
     let rest = reader_remaining g.R.Read.remaining c.read_headers.new.reader in
     let old = g.W.Write.contents c.args.writer.now in
     let same = g.W.Write.contents c.read_headers.new.writer in
-    let new = g.W.Write.contents c.write_text.new.writer in
+    let new = g.W.Write.contents c.write_refusal.new.writer in
     let t = subst (λ (h : Headers). ReadsHeaders input rest MOST_LINES c.read_headers.new.left h) c.in-Refused.is
     c.in_ok-world.ensures.read in
     Ran-refused input rest MOST_LINES c.read_headers.new.left (omega arith) old new t.0 t.1 t.2 c.in-Refused.fault t.3
     (Appends-behind old same new _ c.in_ok-world.ensures.kept
-    (subst (λ (x : List ℕ). Appends same new x) (c.as_bytes.ensures.value ∙ c.line.ensures)
-    c.in_ok-write_text-in-Refused.ensures))
+    (subst (λ (x : List ℕ). Appends same new x) (ap error_line c.word.ensures)
+    c.in_ok-write_refusal-in-Refused.ensures))

@@ -2,9 +2,8 @@ use Rattle.std.proofs.Common.{ℕ, List, subst}
 use Rattle.std.proofs.lemmas.Result.{err_from_is_err_and}
 use Rattle.std.specs.Io.KnownBytes.{Appends}
 use Rattle.text_lines.specs.Writing.{AppendsPart}
-use Rattle.text_lines.proofs.Written.{Writes-err}
-use Rattle.cluster_main.proofs.Written.{part-first, part-second, line-written}
-use Rattle.cluster_main.proofs.lines.write_line.Goals as goal
+use Rattle.text_lines.proofs.Written.{Writes-err, part-first, part-second, line-written}
+use Rattle.text_lines.proofs.writing.write_line.Goals as goal
 
 pub returns-in_err-write_text : goal.returns-in_err-write_text
 returns-in_err-write_text g c =
