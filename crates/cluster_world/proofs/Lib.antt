@@ -28,6 +28,7 @@ mod Succeeding
 mod Restarting
 mod Returning
 mod Replaced
+mod Entered
 pub mod Agreeing
 pub mod Locks
 pub mod Leftovers

@@ -65,8 +65,8 @@ fn number_for<N: Names<Memory = Global>>(
     }
 }
 
-/// Puts what the node `stepped` entered, which had the join `own` before its step, at the end of the history. It takes no memory that
-/// can be refused, since there is room.
+/// Puts what the node `stepped` entered, which had the join `own` before its step, at the end of the history, and empties the list. It
+/// takes no memory that can be refused, since there is room. Entries are large: so each is read where it lies, and not moved first.
 pub(crate) fn enter_all<N: Names<Memory = Global>>(
     history: &mut History,
     entries: &mut Vec<Entry>,
@@ -78,8 +78,9 @@ pub(crate) fn enter_all<N: Names<Memory = Global>>(
     ensures { entries_of history.new.entries
         ≡ entries_of history.old.entries ++ map (entry_by (number_at cores.now stepped.now own)) entries.old.items }
 {
-    for mut entry in entries.drain(..) {
-        let number = number_for(&entry, cores, stepped, own);
-        history.enter(&mut entry, number);
+    for entry in entries.iter_mut() {
+        let number = number_for(entry, cores, stepped, own);
+        history.enter(entry, number);
     }
+    entries.clear();
 }

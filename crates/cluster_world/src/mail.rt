@@ -296,6 +296,9 @@ impl Mail {
         ensures left { HaveLeft self.old.nodes self.old.departed }
         ensures all { OnOk result (self.new.unsent ≡ None) }
     {
+        if self.unsent.is_none() {
+            return Ok(());
+        }
         let Some(mut outbox) = self.unsent.take() else {
             return Ok(());
         };
@@ -356,6 +359,9 @@ impl Mail {
         ensures departed { self.new.departed ≡ self.old.departed }
         ensures links { links_of self.new ≡ posted sender.now (λ t. letters_to t letters.old.items) (links_of self.old) }
     {
+        if letters.is_empty() {
+            return;
+        }
         let alloc: Global = *letters.allocator();
         let mut waiting = VecDeque::from(mem::replace(letters, Vec::new(alloc)));
         self.send_all(place, sender, &mut waiting);
