@@ -1,5 +1,5 @@
 //! The lines that are read: an arm for each. They stand by the number of their texts.
-ghost use Rattle.std.specs.Prelude.{◌≡◌, ◌≢◌, map, ◌∷◌, [], Err, true, is_some, MatchResult, IfOk, OnErr};
+ghost use Rattle.std.specs.Prelude.{◌≡◌, ◌≢◌, codes, map, ◌∷◌, [], Err, true, is_some, MatchResult, IfOk, OnErr};
 ghost use Rattle.protocol_model.specs.Event.{Exiting, LookUp, SetLock, DelLock};
 ghost use Rattle.registry_model.specs.Call.{NoticesOf};
 ghost use Rattle.term.specs.Rules.{SpellsRule};
@@ -197,18 +197,45 @@ fn with_one(word: &str, text: &str) -> Result<LineCommand, LineFault>
     }
 }
 
-/// What a word with two texts asks for.
+/// What a look-up of a name asks for.
+fn whereis(node: &str, name: &str) -> Result<LineCommand, LineFault>
+    ensures { WordsAsk (codes "whereis" ∷ node.now ∷ name.now ∷ []) (asked_by result) }
+{
+    Ok(call(parse_node_name(node)?, Call::Whereis(parse_name(name)?)))
+}
+
+/// What giving up a name asks for.
+fn unregister(node: &str, name: &str) -> Result<LineCommand, LineFault>
+    ensures { WordsAsk (codes "unregister" ∷ node.now ∷ name.now ∷ []) (asked_by result) }
+{
+    Ok(call(parse_node_name(node)?, Call::Unregister(parse_name(name)?)))
+}
+
+/// What a join asks for.
+fn join(node: &str, contact: &str) -> Result<LineCommand, LineFault>
+    ensures { WordsAsk (codes "join" ∷ node.now ∷ contact.now ∷ []) (asked_by result) }
+{
+    Ok(call(parse_node_name(node)?, Call::Join(parse_node(contact)?)))
+}
+
+/// What a delivery asks for.
+fn deliver(sender: &str, receiver: &str) -> Result<LineCommand, LineFault>
+    ensures { WordsAsk (codes "deliver" ∷ sender.now ∷ receiver.now ∷ []) (asked_by result) }
+{
+    let sender = parse_node_name(sender)?;
+    Ok(LineCommand::Play(WorldEvent::Deliver(sender, parse_node_name(receiver)?)))
+}
+
+/// What a word with two texts asks for. Each word has a function of its own, so that a line pays for the values of its own word alone;
+/// look-ups are tried first, since they come most often.
 fn with_two(word: &str, text: &str, next: &str) -> Result<LineCommand, LineFault>
     ensures { WordsAsk (word.now ∷ text.now ∷ next.now ∷ []) (asked_by result) }
 {
     match word {
-        "unregister" => Ok(call(parse_node_name(text)?, Call::Unregister(parse_name(next)?))),
-        "whereis" => Ok(call(parse_node_name(text)?, Call::Whereis(parse_name(next)?))),
-        "join" => Ok(call(parse_node_name(text)?, Call::Join(parse_node(next)?))),
-        "deliver" => {
-            let sender = parse_node_name(text)?;
-            Ok(LineCommand::Play(WorldEvent::Deliver(sender, parse_node_name(next)?)))
-        }
+        "whereis" => whereis(text, next),
+        "unregister" => unregister(text, next),
+        "join" => join(text, next),
+        "deliver" => deliver(text, next),
         _ => Err(LineFault::BadLine),
     }
 }
