@@ -21,13 +21,32 @@ use crate::looking::{node_at, show_members, show_table};
 use crate::reading::next_line;
 use crate::refusing::refuse_memory;
 use command_lines::{
-    Answer, LineCommand, LineFault, LocalEvent, Refusal, WorldEvent, answer_line, read_command,
-    started_line, write_refusal,
+    Answer, LineCommand, LineFault, LocalEvent, Refusal, ShortLine, WorldEvent, answer_line,
+    put_answer, read_command, started_line, write_refusal,
 };
 use std::alloc::Global;
 use std::io::{BufReader, Read, Write};
 use term::{MOST_LINES, NodeName, SETTLE_LIMIT};
 use text_lines::{Line, StreamFault, WriteFault, write_text};
+
+/// Writes the line of an answer that is long or says a list, which takes memory.
+fn write_long<W: Write>(alloc: Global, writer: &mut W, answer: &Answer) -> Result<(), WriteFault>
+    ensures { Writes (W.contents writer.old) (W.contents writer.new) result (print.output_line (script.Said (any_answer answer.now))) }
+{
+    let line = answer_line(alloc, answer)?;
+    write_text(writer, line.as_bytes())
+}
+
+/// Writes the line of an answer.
+fn write_answer<W: Write>(alloc: Global, writer: &mut W, answer: &Answer) -> Result<(), WriteFault>
+    ensures { Writes (W.contents writer.old) (W.contents writer.new) result (print.output_line (script.Said (any_answer answer.now))) }
+{
+    let mut line = ShortLine::new();
+    match put_answer(&mut line, answer) {
+        Some(()) => write_text(writer, line.as_bytes()),
+        None => write_long(alloc, writer, answer),
+    }
+}
 
 /// Writes the lines of answers.
 fn write_answers<W: Write>(
@@ -38,8 +57,7 @@ fn write_answers<W: Write>(
     ensures { Writes (W.contents writer.old) (W.contents writer.new) result (print.answers_text (map any_answer answers.now)) }
 {
     for answer in answers {
-        let line = answer_line(alloc, answer)?;
-        write_text(writer, line.as_bytes())?;
+        write_answer(alloc, writer, answer)?;
     }
     Ok(())
 }

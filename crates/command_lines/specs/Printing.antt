@@ -76,6 +76,13 @@ reply_text Reply.Undefined = codes "undefined"
 reply_text (Reply.Names names) = names_text names
 reply_text (Reply.Notices notices) = notices_text notices
 
+-- it is one word, whatever was asked for
+abbrev pub is_word : Reply → Bool
+is_word (Reply.Pid p) = false
+is_word (Reply.Names names) = false
+is_word (Reply.Notices notices) = false
+is_word _ = true
+
 -- an answer: the reply, and before that of a numbered call the node, `#` and the number
 abbrev pub answer_text : Answer → List ℕ
 answer_text s =

@@ -7,6 +7,7 @@ mod grammar;
 mod lock_texts;
 mod printing;
 mod refusing;
+mod short_lines;
 
 pub use commands::{ran_out, read_command, text_of};
 pub use faults::LineFault;
@@ -15,6 +16,7 @@ pub use lock_texts::{parse_retries, parse_target};
 pub use name_table::Pair;
 pub use printing::{answer_line, members_line, started_line, table_line};
 pub use refusing::{refusal_line, write_refusal};
+pub use short_lines::{ShortLine, put_answer};
 pub use world_events::{
     Answer, Call, LocalEvent, Notice, NoticeList, Refusal, Reply, StartFault, StepFault, WorldEvent,
 };

@@ -1,5 +1,5 @@
 //! What is printed.
-ghost use Rattle.std.specs.Prelude.{◌≡◌, ◌++◌, ◌∷◌, IfOk, OnOk, string_bytes};
+ghost use Rattle.std.specs.Prelude.{◌≡◌, ◌++◌, ◌∷◌, true, IfOk, OnOk, string_bytes};
 ghost use Rattle.protocol_model.specs.NamedEvents.{Said, Started, TableIs, MembersAre};
 ghost use Rattle.world_events.specs.NodeEventsSeen.{answer_of as any_answer, reply_of as any_reply};
 ghost use Rattle.term.specs.Rules.{rule_of};
@@ -44,24 +44,34 @@ fn push_notices(text: &mut String, notices: &[Notice]) -> Result<(), AllocError>
     Ok(())
 }
 
+/// The text of a reply that is one word, or nothing.
+pub(crate) fn word_of(reply: &Reply) -> &'static str
+    ensures { print.is_word (any_reply reply.now) ≡ true → result.now ≡ print.reply_text (any_reply reply.now) }
+{
+    match reply {
+        Reply::Yes => "yes",
+        Reply::No => "no",
+        Reply::Ok => "ok",
+        Reply::UnknownNode => "unknown_node",
+        Reply::True => "true",
+        Reply::False => "false",
+        Reply::Joined => "joined",
+        Reply::NotMember => "not_member",
+        Reply::ContactLeft => "contact_left",
+        Reply::Undefined => "undefined",
+        Reply::Pid(_) | Reply::Names(_) | Reply::Notices(_) => "",
+    }
+}
+
 /// Puts the text of a reply behind a text.
 fn push_reply(text: &mut String, reply: &Reply) -> Result<(), AllocError>
     ensures { OnOk result (string_bytes text.new ≡ string_bytes text.old ++ print.reply_text (any_reply reply.now)) }
 {
     match reply {
-        Reply::Yes => text.push_str("yes"),
-        Reply::No => text.push_str("no"),
-        Reply::Ok => text.push_str("ok"),
-        Reply::UnknownNode => text.push_str("unknown_node"),
-        Reply::True => text.push_str("true"),
-        Reply::False => text.push_str("false"),
-        Reply::Joined => text.push_str("joined"),
-        Reply::NotMember => text.push_str("not_member"),
-        Reply::ContactLeft => text.push_str("contact_left"),
         Reply::Pid(process) => write!(text, "{process}"),
-        Reply::Undefined => text.push_str("undefined"),
         Reply::Names(names) => push_names(text, names.as_slice()),
         Reply::Notices(notices) => push_notices(text, notices.as_slice()),
+        word => text.push_str(word_of(word)),
     }
 }
 
