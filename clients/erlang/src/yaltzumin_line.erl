@@ -1,7 +1,7 @@
 %% @doc Lines of the program `cluster_main node': what it is told, and what it prints.
 -module(yaltzumin_line).
 -export([ask/2, letter/2, down/1, started/1, founds/0, behind/2, tick/0]).
--export([read/1, mentions/1, nodes/1, asks_global/1]).
+-export([read/1, parts/1, mentions/1, nodes/1, asks_global/1]).
 
 -export_type([tag/0, printed/0]).
 
@@ -56,10 +56,10 @@ tick() -> <<"tick\n">>.
 %% @doc What a printed line says, without its end.
 -spec read(binary()) -> printed().
 read(<<Digit, _/binary>> = Line) when Digit >= $0, Digit =< $9 ->
-    [Tag, Reply] = binary:split(Line, <<" ">>),
+    {Tag, Reply} = yaltzumin_text:cut($\s, Line),
     {tag, binary_to_integer(Tag), reply(Reply)};
 read(<<"send ", Rest/binary>>) ->
-    [To, Letter] = binary:split(Rest, <<" ">>),
+    {To, Letter} = yaltzumin_text:cut($\s, Rest),
     {send, To, Letter};
 read(Line) ->
     printed(binary:split(Line, <<" ">>, [global]), Line).
@@ -81,28 +81,47 @@ printed([<<"wait">>], _) -> wait;
 printed([<<"gap">> | _], Line) -> {gap, Line};
 printed(_, Line) -> {other, Line}.
 
+%% @doc The number, the stamp and the text of a letter.
+-spec parts(Letter :: binary()) -> {Number :: non_neg_integer(), Stamp :: non_neg_integer(), Text :: binary()}.
+parts(Letter) ->
+    {Number, Rest} = yaltzumin_text:cut($\s, Letter),
+    {Stamp, Text} = yaltzumin_text:cut($\s, Rest),
+    {binary_to_integer(Number), binary_to_integer(Stamp), Text}.
+
+text_of(Letter) -> element(3, parts(Letter)).
+
 %% @doc The names and the processes that a letter tells of which its reader may not know.
 -spec mentions(Letter :: binary()) -> {Names :: [text()], Processes :: [text()]}.
 mentions(Letter) ->
-    case binary:split(Letter, <<" ">>, [global]) of
-        [_, _, Word, Name, Process, _Rule] when Word =:= <<"put">>; Word =:= <<"+pair">>; Word =:= <<"+put">> -> {[Name], [Process]};
-        [_, _, <<"+notice">>, _Receiver, Name] -> {[Name], []};
-        [_, _, <<"+notice">>, _Receiver, Name, Other] -> {[Name], [Other]};
+    case text_of(Letter) of
+        <<"put ", Rest/binary>> -> pair(Rest);
+        <<"+put ", Rest/binary>> -> pair(Rest);
+        <<"+pair ", Rest/binary>> -> pair(Rest);
+        <<"+notice ", Rest/binary>> -> notice(binary:split(Rest, <<" ">>, [global]));
         _ -> {[], []}
     end.
+
+pair(Words) ->
+    [Name, Process, _Rule] = binary:split(Words, <<" ">>, [global]),
+    {[Name], [Process]}.
+
+notice([_Receiver, Name]) -> {[Name], []};
+notice([_Receiver, Name, Other]) -> {[Name], [Other]}.
 
 %% @doc The nodes that a letter tells of, which have started.
 -spec nodes(Letter :: binary()) -> [text()].
 nodes(Letter) ->
-    case binary:split(Letter, <<" ">>, [global]) of
-        [_, _, Word, Node] when Word =:= <<"+member">>; Word =:= <<"+told">>; Word =:= <<"admit">> -> [Node];
+    case text_of(Letter) of
+        <<"+member ", Node/binary>> -> [Node];
+        <<"+told ", Node/binary>> -> [Node];
+        <<"admit ", Node/binary>> -> [Node];
         _ -> []
     end.
 
 %% @doc Whether a letter asks for the lock under which names are changed.
 -spec asks_global(Letter :: binary()) -> boolean().
 asks_global(Letter) ->
-    case binary:split(Letter, <<" ">>, [global]) of
-        [_, _, <<"ask">>, <<"global">> | _] -> true;
+    case text_of(Letter) of
+        <<"ask global ", _/binary>> -> true;
         _ -> false
     end.

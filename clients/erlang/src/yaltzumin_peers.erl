@@ -450,14 +450,17 @@ named_one(Text, #peers{nodes = Nodes} = Peers) ->
 
 %% @doc Whether this node was told that one has left.
 -spec has_left(text(), peers()) -> boolean().
-has_left(Text, #peers{losses = Losses} = Peers) ->
-    {Node, Creation} = yaltzumin_text:node_parts(Text),
+has_left(Text, Peers) ->
+    has_left(Text, yaltzumin_text:node_parts(Text), Peers).
+
+has_left(Text, {Node, Creation}, #peers{losses = Losses} = Peers) ->
     yaltzumin_losses:is_dying(Text, Losses) orelse stage(Node, Peers) >= {Creation, gone}.
 
 %% @doc Whether letters of a node may come: its server has said hello, and wasn't lost.
 -spec is_linked_from(text(), peers()) -> boolean().
 is_linked_from(Text, Peers) ->
-    known_as(yaltzumin_text:node_of(Text), Peers) =:= Text andalso not has_left(Text, Peers).
+    {Node, _} = Parts = yaltzumin_text:node_parts(Text),
+    known_as(Node, Peers) =:= Text andalso not has_left(Text, Parts, Peers).
 
 %% ------------------------------------------------------------------------------------------------------------ letters and joins
 

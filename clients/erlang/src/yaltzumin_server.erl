@@ -53,6 +53,7 @@
 -type then() :: fun((binary() | {error, binary()}, #state{}) -> #state{}).
 
 -define(MOST_NODES, 8).
+-define(ROOM, 16384).       % so many words has the heap at least
 -define(OPENING, 60000).    % so long the program has for its first answer
 -define(TICK, 1).           % between two ticks of a program that waits
 -define(GIVING_WAY, 2).     % how long a name call waits for rivals at most
@@ -75,6 +76,8 @@ init(Options) ->
     _ = process_flag(trap_exit, true),
     _ = process_flag(priority, high),
     _ = process_flag(message_queue_data, off_heap),
+    %% Most that a turn makes is garbage behind it: with room for many turns little is left to be copied when it is collected.
+    _ = process_flag(min_heap_size, ?ROOM),
     case fault(Options) of
         none -> opened(Options);
         Fault -> {stop, Fault}
@@ -285,6 +288,8 @@ spawned(Pid, Text, #state{owners = Owners} = State0) ->
 asks(Words, Then, #state{tag = Tag, asked = Asked} = State) ->
     tells(yaltzumin_line:ask(Tag, Words), State#state{tag = Tag + 1, asked = Asked#{Tag => Then}}).
 
+tells([], State) ->
+    State;
 tells(Line, #state{lines = Lines} = State) ->
     State#state{lines = [Lines | Line]}.
 
@@ -320,8 +325,9 @@ goes_on(State) ->
 told({letters, From, Letters, Known}, #state{peers = Peers} = State) ->
     case yaltzumin_peers:is_linked_from(From, Peers) of
         true ->
+            Handed = hurried(lists:foldl(fun(Letter, S) -> handed(From, Letter, S) end, State, Letters)),
             yaltzumin_table:learn(Known),
-            lists:foldl(fun(Letter, S) -> heard(From, Letter, S) end, State, Letters);
+            lists:foldl(fun(Letter, S) -> heard(From, Letter, S) end, Handed, Letters);
         false ->
             %% Its node lives, or lived when it sent them: they are of a link that has ended.
             yaltzumin_peers:refuse(From, Peers),
@@ -368,11 +374,19 @@ told(_, State) ->
 knows({Lines, Peers}, State) ->
     tells(Lines, State#state{peers = Peers}).
 
-%% A letter came. The program is told before of the nodes that it names. Whoever asks for the lock of names is a rival, and who gave way to
-%% rivals goes on.
-heard(From, Letter, #state{peers = Peers0, rivals = Rivals, gives_way = Timer} = State) ->
-    {Lines, Peers} = yaltzumin_peers:named(yaltzumin_line:nodes(Letter), Peers0),
-    Heard = tells([Lines | yaltzumin_line:letter(From, Letter)], State#state{peers = yaltzumin_peers:heard(From, Letter, Peers)}),
+%% A letter goes to the program, which is told before of the nodes that it names.
+handed(From, Letter, #state{peers = Before} = State) ->
+    {Lines, Peers} = yaltzumin_peers:named(yaltzumin_line:nodes(Letter), Before),
+    tells([Lines | yaltzumin_line:letter(From, Letter)], State#state{peers = Peers}).
+
+%% The program begins to work while the rest of the turn is done: what it prints is read behind that. But where a name call waits for a letter,
+%% it may go with it.
+hurried(#state{gives_way = none} = State) -> written(State);
+hurried(State) -> State.
+
+%% A letter came. Whoever asks for the lock of names is a rival, and who gave way to rivals goes on.
+heard(From, Letter, #state{peers = Peers, rivals = Rivals, gives_way = Timer} = State) ->
+    Heard = State#state{peers = yaltzumin_peers:heard(From, Letter, Peers)},
     case yaltzumin_line:asks_global(Letter) of
         true ->
             _ = Timer =:= none orelse erlang:cancel_timer(Timer),
@@ -385,11 +399,15 @@ heard(From, Letter, #state{peers = Peers0, rivals = Rivals, gives_way = Timer} =
 turned(State) ->
     written(carried(synchronized(joins(next_name(State))))).
 
+written(#state{lines = []} = State) ->
+    State;
 written(#state{port = Port, lines = Lines} = State) ->
     %% A program that has ended is told by a message.
     _ = iolist_size(Lines) =:= 0 orelse catch port_command(Port, Lines),
     State#state{lines = []}.
 
+carried(#state{letters = Letters} = State) when map_size(Letters) =:= 0 ->
+    State;
 carried(#state{letters = Letters, peers = Peers} = State) ->
     Carry = fun(To, {Texts, Known}, P) -> yaltzumin_peers:carry(To, lists:reverse(Texts), Known, P) end,
     State#state{letters = #{}, peers = maps:fold(Carry, Peers, Letters)}.
@@ -428,10 +446,14 @@ starts_anew(Why, State) ->
 
 %% ------------------------------------------------------------------------------------------------------------ what the program prints
 
+printed(Data, #state{rest = <<>>} = State) ->
+    shown_lines(binary:split(Data, <<"\n">>, [global]), State);
 printed(Data, #state{rest = Rest} = State) ->
-    Lines = binary:split(<<Rest/binary, Data/binary>>, <<"\n">>, [global]),
-    {Whole, [Beginning]} = lists:split(length(Lines) - 1, Lines),
-    lists:foldl(fun(Line, S) -> shown(yaltzumin_line:read(Line), S) end, State#state{rest = Beginning}, Whole).
+    printed(<<Rest/binary, Data/binary>>, State#state{rest = <<>>}).
+
+shown_lines([<<>>], State) -> State;
+shown_lines([Beginning], State) -> State#state{rest = Beginning};
+shown_lines([Line | Lines], State) -> shown_lines(Lines, shown(yaltzumin_line:read(Line), State)).
 
 shown({put, Name, Owner}, #state{whole = Pairs} = State) when is_list(Pairs) ->
     State#state{whole = [{Name, Owner} | Pairs]};

@@ -1,7 +1,7 @@
 %% @doc Texts of the program's lines: names and other terms, nodes with their creations, processes.
 -module(yaltzumin_text).
 -export([of_term/1, of_resource/1, is_hash/1]).
--export([is_node/1, of_node/2, node_parts/1, node_of/1, node_of_pid/1]).
+-export([is_node/1, of_node/2, node_parts/1, node_of/1, node_of_pid/1, cut/2]).
 
 -export_type([text/0]).
 
@@ -63,9 +63,9 @@ of_node(Node, Creation) -> <<(atom_to_binary(Node))/binary, $/, (integer_to_bina
 %% @doc The node and the creation that a text of a node tells.
 -spec node_parts(text()) -> {node(), pos_integer()}.
 node_parts(Text) ->
-    case binary:split(Text, <<"/">>) of
-        [Name] -> {binary_to_atom(Name), 1};
-        [Name, Creation] -> {binary_to_atom(Name), binary_to_integer(Creation)}
+    case cut($/, Text) of
+        {Name, Creation} -> {binary_to_atom(Name), binary_to_integer(Creation)};
+        none -> {binary_to_atom(Text), 1}
     end.
 
 %% @doc The node that a text of a node tells.
@@ -77,5 +77,13 @@ node_of(Text) ->
 %% @doc The text of the node of the process that has this text.
 -spec node_of_pid(text()) -> text().
 node_of_pid(Text) ->
-    [Node, _Serial] = binary:split(Text, <<".">>),
+    {Node, _Serial} = cut($., Text),
     Node.
+
+%% @doc A text cut at the first byte that is this one: what stands before it, and what stands behind it.
+-spec cut(byte(), binary()) -> {binary(), binary()} | none.
+cut(Byte, Text) -> cut(Text, Byte, Text, 0).
+
+cut(<<It, Behind/binary>>, Byte, Text, At) when It =:= Byte -> {binary_part(Text, 0, At), Behind};
+cut(<<_, Behind/binary>>, Byte, Text, At) -> cut(Behind, Byte, Text, At + 1);
+cut(<<>>, _, _, _) -> none.
