@@ -1,10 +1,10 @@
 %% @doc The processes of this node that its program knows, each under a text of its own.
 -module(yaltzumin_owners).
--export([new/0, count/1, find/2, add/2, wait/3, spawned/3, ended/2]).
+-export([new/0, count/1, find/2, add/2, watch/2, wait/3, spawned/3, ended/2]).
 
 -export_type([owners/1]).
 
--opaque owners(Then) :: #{pid() => {text() | spawning | ended, reference(), [Then]}}.
+-opaque owners(Then) :: #{pid() => {text() | spawning | ended, reference() | none, [Then]}}.
 %% A process is being spawned until the program has told its text; what waits for that, the last first.
 
 -type text() :: yaltzumin_text:text().
@@ -26,10 +26,15 @@ find(Pid, Owners) ->
         _ -> none
     end.
 
-%% @doc A process is being spawned. It is watched from now on.
+%% @doc A process is being spawned.
 -spec add(pid(), owners(Then)) -> owners(Then).
 add(Pid, Owners) ->
-    Owners#{Pid => {spawning, monitor(process, Pid), []}}.
+    Owners#{Pid => {spawning, none, []}}.
+
+%% @doc A process is watched from now on.
+-spec watch(pid(), owners(Then)) -> owners(Then).
+watch(Pid, Owners) ->
+    maps:update_with(Pid, fun({Text, none, Waiting}) -> {Text, monitor(process, Pid), Waiting} end, Owners).
 
 %% @doc Something waits until the text of a process that is being spawned is told.
 -spec wait(pid(), Then, owners(Then)) -> owners(Then).

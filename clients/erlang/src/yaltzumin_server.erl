@@ -33,6 +33,8 @@
     %% What goes to the program in this turn, and to other nodes.
     lines = [] :: iodata(),
     letters = #{} :: #{text() => {[binary()], [yaltzumin_table:known()]}},
+    %% What is done once that is on its way, the last first.
+    behind = [] :: [fun((#state{}) -> #state{})],
     %% What is done with the reply under each tag.
     tag = 1 :: yaltzumin_line:tag(),
     asked = #{} :: #{yaltzumin_line:tag() => then()},
@@ -213,8 +215,7 @@ next_name(State) ->
 names(Request, From, State0) ->
     Name = element(2, Request),
     Text = yaltzumin_text:of_term(Name),
-    yaltzumin_table:learn_term(Text, Name),
-    State = bury(Name, State0),
+    State = behind(fun(S) -> yaltzumin_table:learn_term(Text, Name), S end, bury(Name, State0)),
     Then = fun(Reply, S) -> gen_server:reply(From, reply(Reply)), named(S) end,
     case Request of
         {unregister, _} ->
@@ -271,7 +272,8 @@ with_text(Pid, Then, #state{owners = Owners} = State) ->
     end.
 
 spawns(Pid, #state{owners = Owners} = State) ->
-    asks([<<"spawn">>], fun(Text, S) -> spawned(Pid, Text, S) end, State#state{owners = yaltzumin_owners:add(Pid, Owners)}).
+    Spawns = asks([<<"spawn">>], fun(Text, S) -> spawned(Pid, Text, S) end, State#state{owners = yaltzumin_owners:add(Pid, Owners)}),
+    behind(fun(#state{owners = Added} = S) -> S#state{owners = yaltzumin_owners:watch(Pid, Added)} end, Spawns).
 
 spawned(_, {error, Word}, _) ->
     %% What was asked behind it of `self' is another process's: nothing of it may go out.
@@ -325,9 +327,8 @@ goes_on(State) ->
 told({letters, From, Letters, Known}, #state{peers = Peers} = State) ->
     case yaltzumin_peers:is_linked_from(From, Peers) of
         true ->
-            Handed = hurried(lists:foldl(fun(Letter, S) -> handed(From, Letter, S) end, State, Letters)),
-            yaltzumin_table:learn(Known),
-            lists:foldl(fun(Letter, S) -> heard(From, Letter, S) end, Handed, Letters);
+            Notes = fun(S) -> yaltzumin_table:learn(Known), noted(From, Letters, S) end,
+            behind(Notes, lists:foldl(fun(Letter, S) -> heard(From, Letter, S) end, State, Letters));
         false ->
             %% Its node lives, or lived when it sent them: they are of a link that has ended.
             yaltzumin_peers:refuse(From, Peers),
@@ -374,19 +375,11 @@ told(_, State) ->
 knows({Lines, Peers}, State) ->
     tells(Lines, State#state{peers = Peers}).
 
-%% A letter goes to the program, which is told before of the nodes that it names.
-handed(From, Letter, #state{peers = Before} = State) ->
+%% A letter came. The program is told before of the nodes that it names. Whoever asks for the lock of names is a rival, and who gave way to
+%% rivals goes on.
+heard(From, Letter, #state{peers = Before, rivals = Rivals, gives_way = Timer} = State) ->
     {Lines, Peers} = yaltzumin_peers:named(yaltzumin_line:nodes(Letter), Before),
-    tells([Lines | yaltzumin_line:letter(From, Letter)], State#state{peers = Peers}).
-
-%% The program begins to work while the rest of the turn is done: what it prints is read behind that. But where a name call waits for a letter,
-%% it may go with it.
-hurried(#state{gives_way = none} = State) -> written(State);
-hurried(State) -> State.
-
-%% A letter came. Whoever asks for the lock of names is a rival, and who gave way to rivals goes on.
-heard(From, Letter, #state{peers = Peers, rivals = Rivals, gives_way = Timer} = State) ->
-    Heard = State#state{peers = yaltzumin_peers:heard(From, Letter, Peers)},
+    Heard = tells([Lines | yaltzumin_line:letter(From, Letter)], State#state{peers = Peers}),
     case yaltzumin_line:asks_global(Letter) of
         true ->
             _ = Timer =:= none orelse erlang:cancel_timer(Timer),
@@ -395,9 +388,22 @@ heard(From, Letter, #state{peers = Peers, rivals = Rivals, gives_way = Timer} = 
             Heard
     end.
 
-%% What a turn leaves is done: the next name call, a join, letters, the lines for the program.
+%% What came is kept for the case that its sender dies.
+noted(From, Letters, #state{peers = Peers} = State) ->
+    State#state{peers = lists:foldl(fun(Letter, P) -> yaltzumin_peers:heard(From, Letter, P) end, Peers, Letters)}.
+
+%% What a turn leaves is done: the next name call, a join, letters, the lines for the program. So the program and others work already while
+%% the rest is done.
 turned(State) ->
-    written(carried(synchronized(joins(next_name(State))))).
+    rested(written(carried(synchronized(joins(next_name(State)))))).
+
+behind(Rest, #state{behind = Behind} = State) ->
+    State#state{behind = [Rest | Behind]}.
+
+rested(#state{behind = []} = State) ->
+    State;
+rested(#state{behind = Behind} = State) ->
+    lists:foldr(fun(Rest, S) -> Rest(S) end, State#state{behind = []}, Behind).
 
 written(#state{lines = []} = State) ->
     State;

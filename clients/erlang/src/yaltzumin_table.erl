@@ -14,7 +14,7 @@
 %% What a text stands for.
 
 -define(NAMES, yaltzumin_names).    % {Name, Owner}
--define(ROWS, yaltzumin_rows).      % {text of a name, text of its owner}
+-define(ROWS, yaltzumin_rows).      % {text of a name, text of its owner, Name}
 -define(OWNED, yaltzumin_owned).    % {{text of a node, text of a process of it, text of a name of that}}
 -define(TERMS, yaltzumin_terms).    % {text, term, when it was learned or lost last}: of hashes alone
 -define(PIDS, yaltzumin_pids).      % {text, pid, when it was learned or lost last}
@@ -55,23 +55,22 @@ own_names() ->
 %% @doc A name has this owner now.
 -spec put(Name :: text(), Owner :: text()) -> ok.
 put(Name, Owner) ->
-    forget_owner(Name),
-    ets:insert(?ROWS, {Name, Owner}),
+    Term = term_of(Name),
+    ets:insert(?NAMES, {Term, pid_of(Owner)}),
+    forget_row(Name),
+    ets:insert(?ROWS, {Name, Owner, Term}),
     ets:insert(?OWNED, {{yaltzumin_text:node_of_pid(Owner), Owner, Name}}),
-    ets:insert(?NAMES, {term_of(Name), pid_of(Owner)}),
     ok.
 
 %% @doc Nobody has a name now. Nothing, where nobody had it: then what its text stands for need not be known.
 -spec remove(Name :: text()) -> ok.
 remove(Name) ->
-    case ets:member(?ROWS, Name) of
-        true ->
-            ets:delete(?NAMES, term_of(Name)),
-            forget_owner(Name),
-            ets:delete(?ROWS, Name),
+    case forget_row(Name) of
+        {ok, Term} ->
+            ets:delete(?NAMES, Term),
             lost(?TERMS, Name),
             ok;
-        false ->
+        none ->
             ok
     end.
 
@@ -93,20 +92,22 @@ remove_all(Key) ->
 replace(Pairs) ->
     lists:foreach(fun({Name, Owner}) -> put(Name, Owner) end, Pairs),
     Now = maps:from_list(Pairs),
-    lists:foreach(fun remove/1, [Name || {Name, _} <- ets:tab2list(?ROWS), not is_map_key(Name, Now)]).
+    lists:foreach(fun remove/1, [Name || {Name, _, _} <- ets:tab2list(?ROWS), not is_map_key(Name, Now)]).
 
 %% @doc No name is left.
 -spec clear() -> ok.
 clear() ->
     lists:foreach(fun ets:delete_all_objects/1, [?NAMES, ?ROWS, ?OWNED]).
 
-forget_owner(Name) ->
-    case ets:lookup(?ROWS, Name) of
-        [{_, Owner}] ->
+%% Takes the row of a name out, and gives the term that the name is.
+forget_row(Name) ->
+    case ets:take(?ROWS, Name) of
+        [{_, Owner, Term}] ->
             ets:delete(?OWNED, {yaltzumin_text:node_of_pid(Owner), Owner, Name}),
-            lost(?PIDS, Owner);
+            lost(?PIDS, Owner),
+            {ok, Term};
         [] ->
-            true
+            none
     end.
 
 %% @doc A text stands for this term.

@@ -95,7 +95,7 @@ names_of_owners() ->
 
 owners_test() ->
     P = spawn(fun() -> receive stop -> ok end end),
-    Spawning = yaltzumin_owners:add(P, yaltzumin_owners:new()),
+    Spawning = yaltzumin_owners:watch(P, yaltzumin_owners:add(P, yaltzumin_owners:new())),
     ?assertEqual(spawning, yaltzumin_owners:find(P, Spawning)),
     {[one, two], runs, Known} = yaltzumin_owners:spawned(P, <<"a.1">>, yaltzumin_owners:wait(P, two, yaltzumin_owners:wait(P, one, Spawning))),
     ?assertEqual({ok, <<"a.1">>}, yaltzumin_owners:find(P, Known)),
