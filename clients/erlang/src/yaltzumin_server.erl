@@ -347,7 +347,8 @@ told({outlives, Tear}, State) ->
 told({timeout, Ticks, tick}, #state{ticks = Ticks} = State) ->
     tells(yaltzumin_line:tick(), State#state{ticks = none});
 told({timeout, Timer, goes_on}, #state{gives_way = Timer} = State) ->
-    State#state{gives_way = none};
+    %% Nobody wanted the lock: who asks for it again is a rival again.
+    State#state{gives_way = none, rivals = #{}};
 told({hello, Hello}, #state{peers = Peers} = State) ->
     knows(yaltzumin_peers:greeted(Hello, Peers), State);
 told({who, From, Ref, Node}, #state{peers = Peers} = State) ->
