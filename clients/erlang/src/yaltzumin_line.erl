@@ -81,14 +81,16 @@ printed([<<"wait">>], _) -> wait;
 printed([<<"gap">> | _], Line) -> {gap, Line};
 printed(_, Line) -> {other, Line}.
 
-%% @doc The number, the stamp and the text of a letter.
--spec parts(Letter :: binary()) -> {Number :: non_neg_integer(), Stamp :: non_neg_integer(), Text :: binary()}.
+%% @doc The digits of the number and of the stamp of a letter, and its text.
+-spec parts(Letter :: binary()) -> {Number :: binary(), Stamp :: binary(), Text :: binary()}.
 parts(Letter) ->
     {Number, Rest} = yaltzumin_text:cut($\s, Letter),
     {Stamp, Text} = yaltzumin_text:cut($\s, Rest),
-    {binary_to_integer(Number), binary_to_integer(Stamp), Text}.
+    {Number, Stamp, Text}.
 
-text_of(Letter) -> element(3, parts(Letter)).
+text_of(Letter) ->
+    {_, _, Text} = parts(Letter),
+    Text.
 
 %% @doc The names and the processes that a letter tells of which its reader may not know.
 -spec mentions(Letter :: binary()) -> {Names :: [text()], Processes :: [text()]}.

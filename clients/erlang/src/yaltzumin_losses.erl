@@ -35,9 +35,10 @@ new() -> #losses{}.
 %% @doc A line of a link came: its number, its stamp and its text.
 -spec heard(text(), Letter :: binary(), losses()) -> losses().
 heard(From, Letter, #losses{links = Links, stamp = Greatest} = Losses) ->
-    {Number, Stamp, Text} = yaltzumin_line:parts(Letter),
+    {Number, Digits, Text} = yaltzumin_line:parts(Letter),
+    Stamp = binary_to_integer(Digits),
     Link = maps:get(From, Links, #link{}),
-    Next = came(kind(Text), Stamp, Text, Link#link{number = Number, stamp = Stamp}),
+    Next = came(kind(Text), Stamp, Text, Link#link{number = binary_to_integer(Number), stamp = Stamp}),
     Losses#losses{links = Links#{From => Next}, stamp = max(Stamp, Greatest)}.
 
 %% @doc The greatest stamp of all lines that came, from whomever: that of a node's last letter isn't above it.

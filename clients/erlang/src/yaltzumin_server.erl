@@ -59,7 +59,7 @@
 -define(OPENING, 60000).    % so long the program has for its first answer
 -define(TICK, 1).           % between two ticks of a program that waits
 -define(GIVING_WAY, 2).     % how long a name call waits for rivals at most
--define(RIVALRY, 8).        % for so many name calls of this node another that asked counts as a rival
+-define(RIVALRY, 8).        % for so many name calls of this node another that asked counts as a rival, unless a wait for rivals was in vain
 -define(LOOKING, 100).      % until a node that couldn't join looks again
 -define(AROUND, 5000).      % between two looks at who isn't connected
 -define(SWEEPING, 60000).   % between two looks at what texts stand for
@@ -347,7 +347,7 @@ told({outlives, Tear}, State) ->
 told({timeout, Ticks, tick}, #state{ticks = Ticks} = State) ->
     tells(yaltzumin_line:tick(), State#state{ticks = none});
 told({timeout, Timer, goes_on}, #state{gives_way = Timer} = State) ->
-    %% Nobody wanted the lock: who asks for it again is a rival again.
+    %% None asked: whoever asks again is a rival again.
     State#state{gives_way = none, rivals = #{}};
 told({hello, Hello}, #state{peers = Peers} = State) ->
     knows(yaltzumin_peers:greeted(Hello, Peers), State);
