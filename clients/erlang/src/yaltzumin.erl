@@ -52,7 +52,7 @@ re_register_name(Name, Pid, Rule) when is_pid(Pid) ->
 %% @doc Takes a name from whoever has it.
 -spec unregister_name(name()) -> ok.
 unregister_name(Name) ->
-    call({unregister, Name}).
+    call({unregister, yaltzumin_text:of_term(Name), Name}).
 
 %% @doc The process that owns a name, by this node's own table; one of this node that is dead owns none. It asks nobody.
 -spec whereis_name(name()) -> pid() | undefined.
@@ -209,11 +209,11 @@ info() ->
     call(info).
 
 names(Word, Name, Pid, Rule) when node(Pid) =:= node() ->
-    named(call({Word, Name, Pid, Rule}));
+    named(call({Word, yaltzumin_text:of_term(Name), Name, Pid, Rule}));
 names(Word, Name, Pid, Rule) ->
     %% The server of the process's own node knows what it is called.
     try gen_server:call({yaltzumin_server, node(Pid)}, {text_of, Pid}, infinity) of
-        Text -> named(call({Word, Name, {Pid, Text}, Rule}))
+        Text -> named(call({Word, yaltzumin_text:of_term(Name), Name, {Pid, Text}, Rule}))
     catch
         exit:_ -> no
     end.

@@ -13,8 +13,8 @@
 -type owner() :: pid() | {pid(), text()}.
 %% A process of this node, or one of another with its text there.
 -type request() ::
-    {register | re_register, Name :: term(), owner(), Rule :: text()} |
-    {unregister, Name :: term()} |
+    {register | re_register, text(), Name :: term(), owner(), Rule :: text()} |
+    {unregister, text(), Name :: term()} |
     {set_lock, Resource :: text(), Requester :: text(), all | [node()], Retries :: text()} |
     {del_lock, Resource :: text(), Requester :: text(), all | [node()]} |
     {text_of, pid()} |
@@ -213,17 +213,17 @@ next_name(State) ->
     State.
 
 names(Request, From, State0) ->
-    Name = element(2, Request),
-    Text = yaltzumin_text:of_term(Name),
+    Text = element(2, Request),
+    Name = element(3, Request),
     State = behind(fun(S) -> yaltzumin_table:learn_term(Text, Name), S end, bury(Name, State0)),
     Then = fun(Reply, S) -> gen_server:reply(From, reply(Reply)), named(S) end,
     case Request of
-        {unregister, _} ->
+        {unregister, _, _} ->
             asks([<<"unregister">>, Text], Then, State);
-        {Word, _, {Pid, Owner}, Rule} ->
+        {Word, _, _, {Pid, Owner}, Rule} ->
             yaltzumin_table:learn_pid(Owner, Pid),
             asks([atom_to_binary(Word), Text, Owner, Rule], Then, State);
-        {Word, _, Pid, Rule} ->
+        {Word, _, _, Pid, Rule} ->
             with_owner(Pid, fun(Owner, S) -> asks([atom_to_binary(Word), Text, Owner, Rule], Then, S) end, State)
     end.
 
