@@ -1,5 +1,5 @@
 //! The lines that go out, but for those of letters.
-ghost use Rattle.std.specs.Prelude.{◌≡◌, ◌++◌, map, IfOk, OnOk, string_bytes};
+ghost use Rattle.std.specs.Prelude.{◌≡◌, ◌++◌, ◌∷◌, map, IfOk, OnOk, string_bytes};
 ghost use Rattle.command_lines.specs.NodeEventsSeen.{answer_of};
 ghost use Rattle.command_lines.specs.Printing.{ended, reply_text as any_reply_text};
 ghost use Rattle.node_loop.specs.Told.{outcome_of, told_by};
